@@ -1,0 +1,4 @@
+mod Faults
+mod Signs
+mod Stands
+mod Targets

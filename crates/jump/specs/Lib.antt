@@ -1,0 +1,3 @@
+pub mod Numeral
+pub mod Goto
+pub mod Laws

@@ -1,0 +1,3 @@
+pub mod Gap
+pub mod Refusals
+pub mod Scalars
