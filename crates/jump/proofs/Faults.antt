@@ -35,8 +35,9 @@ pub first-fault-stays : (s : Sign) (cs : List ℕ) (f : Refusal) (m n : ℕ) →
 first-fault-stays s cs f m zero h e = let same : m ≡ 0 = omega arith in rw same at e
 first-fault-stays s cs f m (suc n) h e =
     elim (cases-eq m (suc n)) [
-      inl same ↦ rw same at e
-    | inr other ↦ rw (first-fault-stays s cs f m n (omega arith) e) ]
+      | inl same ↦ rw same at e
+      | inr other ↦ rw (first-fault-stays s cs f m n (omega arith) e)
+    ]
 
 -- Reading one character more, when there was no fault before it.
 pub first-fault-more : (s : Sign) (cs : List ℕ) (i : ℕ) → first-fault s cs i ≡ None → first-fault s cs (i + 1) ≡ fault-at s cs i

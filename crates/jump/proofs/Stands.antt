@@ -94,8 +94,9 @@ none-at s cs zero i e h = absurd (omega arith)
 none-at s cs (suc n) i e h =
     let both = neither (first-fault s cs n) (fault-at s cs n) e in
     elim (cases-eq i n) [
-      inl same ↦ rw same (both .1)
-    | inr other ↦ none-at s cs n i (both .0) (omega arith) ]
+      | inl same ↦ rw same (both .1)
+      | inr other ↦ none-at s cs n i (both .0) (omega arith)
+    ]
 
 -- No fault: a digit stands there, and the number so far keeps within the limit.
 sound-at : (digit fits : Bool) (p q : Refusal) → cond digit (cond fits None (Some p)) (Some q) ≡ None → (digit ≡ true) × (fits ≡ true)
@@ -153,11 +154,10 @@ read-is-numeral (c ∷ cs) z e = by-sign c cs z (eqb c 0x2B) (eqb c 0x2D) refl r
 
 pub reads-just-numerals : Reads-just-numerals
 unfolding OnlyDigits
-reads-just-numerals text z =
-    (
-      (λ n. rw (n .stands-for) (numeral-is-read text (n .digits) (n .sign) (n .spelled) (n .some-digit) (n .only-digits) (n .within-limit))),
-      read-is-numeral text z,
-    )
+reads-just-numerals text z = (
+  (λ n. rw (n .stands-for) (numeral-is-read text (n .digits) (n .sign) (n .spelled) (n .some-digit) (n .only-digits) (n .within-limit))),
+  read-is-numeral text z,
+)
 
 percent-within : (p m : ℕ) → p ≤ 100 → p * m / 100 ≤ m
 percent-within p m h = div-le-of-le-mul 100 (mul-le-mul-right m h)
@@ -191,6 +191,7 @@ goes-inside text lines = cond-both (ltb most-lines lines) _ _ (Inside lines) (λ
   where
     target : (t : List ℕ) → Inside lines (target-of t lines)
     target t = cond-both (ends-in-percent t) _ _ (Inside lines) (λ p. reached-inside line-at-percent lines _ (λ n. percent-inside n lines)) (λ p. reached-inside line-at lines _ (λ n. line-inside n lines))
+
     typed : (t : List ℕ) → Inside lines (goto-text t lines)
     typed [] = tt
     typed (c ∷ cs) = cond-both (eqb c 0x71 && eqb (length cs) 0) _ _ (Inside lines) (λ q. tt) (λ q. target (c ∷ cs))

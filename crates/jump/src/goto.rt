@@ -19,6 +19,7 @@ pub enum Jump {
 }
 
 const QUIT: u32 = 'q' as u32;
+
 const PERCENT: u32 = '%' as u32;
 
 /// The line that a number names.

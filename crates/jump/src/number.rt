@@ -10,6 +10,7 @@ ghost use Rattle.jump.specs.Numeral.{limit as largest, passed as past-limit, o
 use text::refusal::Refusal;
 
 const PLUS: u32 = '+' as u32;
+
 const MINUS: u32 = '-' as u32;
 
 #[derive(Clone, Copy, PartialEq, Eq, Debug)]

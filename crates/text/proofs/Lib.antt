@@ -1,0 +1,4 @@
+pub mod Sequences
+pub mod Spellings
+pub mod Readings
+pub mod Encodings

@@ -1,3 +1,4 @@
 pub mod Gap
 pub mod Refusals
 pub mod Scalars
+pub mod Utf8

@@ -1,4 +1,5 @@
-// What every layer speaks: refusals, scalar values and white space, and the gap in a table.
+// What every layer speaks: refusals, scalar values and white space, UTF-8, and the gap in a table.
 pub mod gap;
 pub mod refusal;
 pub mod scalar;
+pub mod utf8;

@@ -90,7 +90,8 @@ impl Refusal {
     {
         match self {
             Refusal::BadLabel => Layer::Prompt,
-            Refusal::HistoryTooLong | Refusal::IllFormed { .. } | Refusal::BufferTooShort => Layer::Bytes,
+            Refusal::HistoryTooLong | Refusal::IllFormed { .. } | Refusal::BufferTooShort =>
+                Layer::Bytes,
             Refusal::OutsideGlass | Refusal::LowSpare => Layer::Glass,
             Refusal::NotScalar | Refusal::DraftFull => Layer::Draft,
             Refusal::ListingTooLong
