@@ -13,8 +13,12 @@ use Rattle.jump.specs.declared.goto.Jump.{Jump}
 use Rattle.jump.specs.declared.goto.Jump.the-variants.{Quit, Stay, Line}
 use Rattle.jump.specs.Numeral.{number-read}
 
--- A line counted from the end (-1 is the last but one): held to the first line.
--- A line counted from the top, from 1 on: held to the last line; 0 is the first.
+-- A listing has at most 2^32 lines.
+abbrev pub most-lines : ℕ
+most-lines = 4294967296
+
+-- The line that a number names. A number from 1 on counts from the top and is held to the last line; 0 is the first line too. A negative
+-- one counts from the end, -1 being the last line but one, and is held to the first line.
 abbrev pub line-at : ℤ → (lines : ℕ) → ℕ
 line-at (pos n) lines = min n lines - 1
 line-at (negsuc n) lines = lines - suc n - 1
@@ -51,9 +55,6 @@ abbrev pub goto-text : List ℕ → (lines : ℕ) → Result Jump Refusal
 goto-text [] lines = Ok Stay
 goto-text (c ∷ cs) lines = cond (eqb c 0x71 && eqb (length cs) 0) (Ok Quit) (target-of (c ∷ cs) lines)
 
--- A listing has at most 2^32 lines; a longer one is refused whatever was typed.
-abbrev pub most-lines : ℕ
-most-lines = 4294967296
-
+-- A longer listing is refused, whatever was typed.
 abbrev pub goes-to : List ℕ → (lines : ℕ) → Result Jump Refusal
 goes-to text lines = cond (ltb most-lines lines) (Err ListingTooLong) (goto-text text lines)

@@ -2,7 +2,7 @@
 ghost use mathlib.Core.Path.{_≡_};
 ghost use Prim.Native.Nat.{_≤_};
 ghost use Rattle.jump.specs.Numeral.{number-read};
-ghost use Rattle.jump.specs.Goto.{line-at, line-at-percent, to-line, ends-in-percent, target-of, goes-to};
+ghost use Rattle.jump.specs.Goto.{line-at, line-at-percent, to-line, ends-in-percent, target-of, most-lines, goes-to};
 use crate::number::number;
 use text::refusal::Refusal;
 
@@ -25,7 +25,7 @@ const PERCENT: u32 = '%' as u32;
 /// The line that a number names.
 fn absolute(n: i64, lines: u64) -> u64
     requires some_lines { ⌜ 1 ≤ lines ⌝ }
-    requires lines_fit { ⌜ lines ≤ 4294967296 ⌝ }
+    requires lines_fit { ⌜ lines ≤ most-lines ⌝ }
     ensures value { λ r. ⌜ r ≡ line-at n lines ⌝ }
 {
     let lines = lines as i64;
@@ -44,7 +44,7 @@ fn absolute(n: i64, lines: u64) -> u64
 /// The line that a percentage names.
 fn relative(percent: i64, lines: u64) -> u64
     requires some_lines { ⌜ 1 ≤ lines ⌝ }
-    requires lines_fit { ⌜ lines ≤ 4294967296 ⌝ }
+    requires lines_fit { ⌜ lines ≤ most-lines ⌝ }
     ensures value { λ r. ⌜ r ≡ line-at-percent percent lines ⌝ }
 {
     let held = percent.clamp(-100, 100);
@@ -54,7 +54,7 @@ fn relative(percent: i64, lines: u64) -> u64
 
 /// The line at a percentage, spelled without its sign.
 fn to_percent(spelling: &[u32], lines: u64) -> Result<Jump, Refusal>
-    requires lines_fit { ⌜ lines ≤ 4294967296 ⌝ }
+    requires lines_fit { ⌜ lines ≤ most-lines ⌝ }
     ensures value { λ r. ⌜ r ≡ to-line line-at-percent lines (number-read (now (spelling .entry))) ⌝ }
 {
     let percent = number(spelling)?;
@@ -66,7 +66,7 @@ fn to_percent(spelling: &[u32], lines: u64) -> Result<Jump, Refusal>
 
 /// The line of a number.
 fn to_number(spelling: &[u32], lines: u64) -> Result<Jump, Refusal>
-    requires lines_fit { ⌜ lines ≤ 4294967296 ⌝ }
+    requires lines_fit { ⌜ lines ≤ most-lines ⌝ }
     ensures value { λ r. ⌜ r ≡ to-line line-at lines (number-read (now (spelling .entry))) ⌝ }
 {
     let n = number(spelling)?;
@@ -88,7 +88,7 @@ fn is_percentage(text: &[u32]) -> bool
 
 /// The line that a text of one character and more names. A final % makes it a percentage.
 fn to_target(text: &[u32], lines: u64) -> Result<Jump, Refusal>
-    requires lines_fit { ⌜ lines ≤ 4294967296 ⌝ }
+    requires lines_fit { ⌜ lines ≤ most-lines ⌝ }
     ensures value { λ r. ⌜ r ≡ target-of (now (text .entry)) lines ⌝ }
 {
     match text {

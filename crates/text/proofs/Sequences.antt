@@ -1,6 +1,6 @@
 -- Sequences of UTF-8 at the front of bytes, and what they are encodings of.
 use mathlib.Core.Path.{_≡_, refl, sym, ap, subst, _∙_}
-use mathlib.Core.Bool.{Bool, true, false}
+use mathlib.Core.Bool.{true}
 use mathlib.Core.List.{List, [], _∷_, _++_}
 use mathlib.Core.Logic.{_⊎_, inl, inr}
 use Prim.Native.Nat.{ℕ, zero, suc, _+_, _-_, _*_, _/_, _%_, _≤_, _<_}
@@ -115,6 +115,11 @@ first-is-one {s} {t} {c} {d} x y row other e =
     let q = sequence-is-encoding other .1 in
     let same : (c ≡ d) × (x ≡ y) = encode-same c d x y (ap (λ u. u ++ x) (sym p) ∙ e ∙ ap (λ u. u ++ y) q) in
     (p ∙ ap encode (same .0) ∙ sym q, same .0, same .1)
+
+pub one-beginning : (bytes : List ℕ) (c d : ℕ) (rest others : List ℕ) → Begins bytes c rest → Begins bytes d others → (c ≡ d) × (rest ≡ others)
+one-beginning bytes c d rest others (s, row, e) (t, other, f) =
+    let same = first-is-one rest others row other (sym e ∙ f) in
+    (same .1, same .2)
 
 pub sequence-not-empty : {s : List ℕ} {c : ℕ} → Sequence s c → 0 < length s
 sequence-not-empty (single h) = omega arith

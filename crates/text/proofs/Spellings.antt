@@ -1,12 +1,12 @@
 -- Bytes and the values that they spell: there is one spelling, and a longest front.
 use mathlib.Core.Path.{_≡_, refl, sym, ap, subst, _∙_}
-use mathlib.Core.Bool.{Bool, true, false, cond, _&&_}
+use mathlib.Core.Bool.{true}
 use mathlib.Core.Logic.{_⊎_, inl, inr, ⊎-elim}
 use mathlib.Core.List.{List, [], _∷_, _++_, append-nil, append-assoc}
-use Prim.Native.Nat.{ℕ, zero, suc, _+_, _-_, _≤_, _<_}
+use Prim.Native.Nat.{ℕ, zero, suc, _≤_, _<_}
 use native.Mathlib.Omega.{arith}
-use lib.ListN.{length, take, drop, length-append}
-use lib.Utf8.{scalar, scalars, encode, encodes}
+use lib.ListN.{length, take, length-append}
+use lib.Utf8.{scalar, scalars, encodes}
 use Rattle.std.specs.Orderings.{Decides}
 use Rattle.std.specs.shelf.Text.{sameBytes}
 use Rattle.std.proofs.shelf.Equals.{sameBytes-decides}
@@ -103,3 +103,9 @@ front-up-to-is (suc n) bytes h longer =
 pub front-length-is : (bytes : List ℕ) → LongestFront bytes (front-length bytes)
 unfolding front-length
 front-length-is bytes = front-up-to-is (length bytes) bytes (omega arith) (λ m l h w. omega arith)
+
+-- The first character of well-formed bytes, and the bytes after it.
+pub characters-past : (bytes : List ℕ) (c : ℕ) (rest : List ℕ) → WellFormed bytes → Begins bytes c rest → (characters bytes ≡ c ∷ characters rest) × WellFormed rest
+characters-past bytes c rest w begins =
+    let first = spelled-first c rest (characters-spelled w) begins in
+    (first .1 ∙ ap (λ l. c ∷ l) (one-spelling (first .2)), (first .0, first .2))

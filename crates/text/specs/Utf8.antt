@@ -98,6 +98,7 @@ encoded code = cond (scalar code) (Ok (length (encode code))) (Err NotScalar)
 pub record Utf8Laws : Type 0 where
   pub sequence-is-encoding : (s : List ℕ) (c : ℕ) → Sequence s c → (scalar c ≡ true) × (s ≡ encode c)
   pub encoding-is-sequence : (c : ℕ) → scalar c ≡ true → Sequence (encode c) c
+  pub one-beginning : (bytes : List ℕ) (c d : ℕ) (rest others : List ℕ) → Begins bytes c rest → Begins bytes d others → (c ≡ d) × (rest ≡ others)
   pub one-spelling : (bytes values : List ℕ) → Spells bytes values → values ≡ characters bytes
   pub scalar-values : (bytes : List ℕ) → WellFormed bytes → scalars (characters bytes) ≡ true
   pub round-trip : (values : List ℕ) → scalars values ≡ true → Spells (encodes values) values × (characters (encodes values) ≡ values)

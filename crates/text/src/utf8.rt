@@ -1,16 +1,18 @@
 // UTF-8, read and written by Table 3-7 of the Unicode Standard.
 ghost use mathlib.Core.Path.{_≡_};
 ghost use mathlib.Core.Bool.{true};
-ghost use Rattle.std.specs.Results.{isErr};
-ghost use Rattle.std.specs.Vec.{made};
 ghost use Prim.Native.Nat.{_+_, _%_};
 ghost use lib.ListN.{take};
 ghost use lib.Utf8.{encode as encoding};
-ghost use Rattle.std.specs.Orderings.{Decides};
 ghost use Rattle.std.specs.Options.{Cases};
-ghost use Rattle.text.specs.Utf8.{Pair, Triple, Quad, Begins, NoneBegins, characters, counted, RefusedExactly, overwritten, encoded, Sequence, Utf8Laws};
+ghost use Rattle.std.specs.Orderings.{Decides};
+ghost use Rattle.std.specs.Results.{isErr};
+ghost use Rattle.std.specs.Vec.{made};
+ghost use Rattle.text.specs.Utf8.{Pair, Triple, Quad, Sequence, Begins, NoneBegins, characters, counted, RefusedExactly, overwritten, encoded, Utf8Laws};
 use crate::refusal::Refusal;
 use crate::scalar::is_scalar;
+
+// The rows of the table with two, three and four bytes.
 
 fn is_pair(a: u8, b: u8) -> bool
     ensures value { λ r. ⌜ Decides r (Pair a b) ⌝ }
@@ -63,7 +65,8 @@ pub fn next(bytes: &[u8]) -> Option<(u32, &[u8])>
     }
 }
 
-/// How many characters well-formed bytes spell.
+/// How many characters well-formed bytes spell. Refused as `IllFormed` exactly where the bytes are not well formed: the place is
+/// the length of their longest front that is.
 pub fn count(bytes: &[u8]) -> Result<usize, Refusal>
     ensures value { λ r. ⌜ r ≡ counted (now (bytes .entry)) ⌝ }
     ensures refused_exactly { λ r. ⌜ RefusedExactly (now (bytes .entry)) r ⌝ }
@@ -83,14 +86,15 @@ pub fn count(bytes: &[u8]) -> Result<usize, Refusal>
     }
 }
 
-/// Writes the characters of well-formed bytes to `out`, as far as it has room, and tells how many there are.
+/// Writes the characters of well-formed bytes to the front of `out`, as far as it has room, and tells how many there are.
+/// Refused as `count` is. The bytes are read through before anything is written, so that a refusal leaves `out` as it was.
 pub fn decode(bytes: &[u8], out: &mut [u32]) -> Result<usize, Refusal>
     ensures value { λ r. ⌜ r ≡ counted (now (bytes .entry)) ⌝ }
     ensures refused_exactly { λ r. ⌜ RefusedExactly (now (bytes .entry)) r ⌝ }
     ensures written { λ r. ⌜ made r (λ _. now (out .exit) ≡ overwritten (now (out .entry)) (characters (now (bytes .entry)))) ⌝ }
     ensures unchanged_if_refused { λ r. ⌜ (isErr r ≡ true → now (out .exit) ≡ now (out .entry)) ⌝ }
 {
-    let total = count(bytes)?;
+    let spelled = count(bytes)?;
     let mut rest = bytes;
     for place in out.iter_mut() {
         let Some((value, after)) = next(rest) else {
@@ -99,7 +103,7 @@ pub fn decode(bytes: &[u8], out: &mut [u32]) -> Result<usize, Refusal>
         *place = value;
         rest = after;
     }
-    Ok(total)
+    Ok(spelled)
 }
 
 // A byte that follows the first: six bits after the mark.
@@ -109,7 +113,8 @@ fn following(bits: u32) -> u8
     0x80 + (bits % 0x40) as u8
 }
 
-/// Writes the bytes of a scalar value to the front of `out`, and tells how many there are.
+/// Writes the bytes of a scalar value to the front of `out`, and tells how many there are. Refused as `NotScalar`, and nothing
+/// written, exactly where `code` is no scalar value.
 pub fn encode(code: u32, out: &mut [u8; 4]) -> Result<usize, Refusal>
     ensures value { λ r. ⌜ r ≡ encoded code ⌝ }
     ensures is_sequence { λ r. ⌜ made r (λ n. Sequence (take n (now (out .exit))) code) ⌝ }
