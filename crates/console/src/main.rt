@@ -1,6 +1,7 @@
 // The booking console's prompt, as far as it goes: reads a script from its standard input, one call to a line, and prints what
-// each call did. `listing N` sets the length of the seat list, `type TEXT` finishes a typed text, and `paste BYTES` one that
-// comes as bytes in hexadecimal. A line that is empty or begins with # is passed over.
+// each call did. The README describes the script. A line that is empty or begins with # is passed over.
+mod editing;
+
 ghost use mathlib.Core.Path.{_≡_};
 ghost use Rattle.console.specs.Typed.{typed-jump};
 use jump::goto::Jump;
@@ -40,7 +41,7 @@ fn bytes_from_hex(heap: Global, words: &str) -> Result<Option<Vec<u8>>, AllocErr
     Ok(Some(bytes))
 }
 
-fn print_refusal(rt: &LibcRuntime, refusal: Refusal) -> io::Result<()> {
+pub(crate) fn print_refusal(rt: &LibcRuntime, refusal: Refusal) -> io::Result<()> {
     let number = refusal.number();
     let layer = refusal.layer().name();
     let words = refusal.words();
@@ -56,6 +57,18 @@ fn print_jump(rt: &LibcRuntime, answer: Result<Jump, Refusal>) -> io::Result<()>
         Ok(Jump::Stay) => println!(rt, "stay"),
         Ok(Jump::Line(line)) => println!(rt, "line {line}"),
         Err(refusal) => print_refusal(rt, refusal),
+    }
+}
+
+/// Edits a draft: the width of the row comes first, and then the keys.
+fn edit_on(rt: &LibcRuntime, rest: &str) -> io::Result<()> {
+    let (width, keys) = rest.split_once(' ').unwrap_or((rest, ""));
+    match width.parse::<usize>() {
+        Ok(width) => {
+            println!(rt, "an empty draft")?;
+            editing::edit(rt, width, keys)
+        }
+        Err(_) => println!(rt, "not a width"),
     }
 }
 
@@ -76,6 +89,7 @@ fn perform(rt: &LibcRuntime, line: &str, lines: u64) -> io::Result<u64> {
             Some(bytes) => print_jump(rt, jump_by(bytes.as_slice(), lines))?,
             None => println!(rt, "not bytes in hexadecimal")?,
         },
+        "edit" => edit_on(rt, rest)?,
         _ => println!(rt, "not understood")?,
     }
     Ok(lines)

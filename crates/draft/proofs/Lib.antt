@@ -1,0 +1,9 @@
+pub mod Scalars
+pub mod Drafts
+pub mod Refusals
+pub mod Steps
+pub mod Scrolling
+pub mod Clamp
+pub mod Letters
+pub mod Furthest
+pub mod Undone

@@ -1,0 +1,10 @@
+pub mod Words
+pub mod Line
+pub mod Draft
+pub mod Edits
+pub mod Scroll
+pub mod Stretches
+pub mod Walks
+pub mod Clusters
+pub mod Examples
+pub mod Letters

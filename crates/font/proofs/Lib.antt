@@ -1,0 +1,3 @@
+pub mod Labels
+pub mod Tables
+pub mod Texts
