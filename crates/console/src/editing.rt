@@ -58,7 +58,11 @@ fn code_of(key: &str) -> Option<u32> {
 }
 
 /// What a key does to the draft, with `room` columns for its text. None where the notation has no such key.
-fn press(draft: &mut PromptState, key: &str, room: usize) -> Option<Result<DisplayAction, Refusal>> {
+pub fn press(
+    draft: &mut PromptState,
+    key: &str,
+    room: usize,
+) -> Option<Result<DisplayAction, Refusal>> {
     if let Some(action) = remove(draft, key) {
         return Some(Ok(action));
     }
@@ -86,15 +90,22 @@ pub fn readable(heap: Global, text: &[u32]) -> Result<String, AllocError> {
     Ok(shown)
 }
 
-fn print_draft(rt: &LibcRuntime, draft: &PromptState) -> io::Result<()> {
+pub fn print_draft(rt: &LibcRuntime, draft: &PromptState) -> io::Result<()> {
     let text = readable(rt.alloc(), draft.as_slice())?;
     let place = draft.position();
     let offset = draft.offset();
     let column = TEXT_START.saturating_add(draft.cursor_position::<FoyerFont>());
-    println!(rt, "[{text}] place {place}, offset {offset}, column {column}")
+    println!(
+        rt,
+        "[{text}] place {place}, offset {offset}, column {column}"
+    )
 }
 
-fn print_pressed(rt: &LibcRuntime, draft: &PromptState, answer: Result<DisplayAction, Refusal>) -> io::Result<()> {
+pub fn print_pressed(
+    rt: &LibcRuntime,
+    draft: &PromptState,
+    answer: Result<DisplayAction, Refusal>,
+) -> io::Result<()> {
     match answer {
         Ok(action) => {
             print!(rt, "{action:?} ")?;

@@ -1,6 +1,8 @@
 // The booking console's prompt, as far as it goes: reads a script from its standard input, one call to a line, and prints what
 // each call did. The README describes the script. A line that is empty or begins with # is passed over.
 mod editing;
+mod remembering;
+mod showing;
 
 ghost use mathlib.Core.Path.{_≡_};
 ghost use Rattle.console.specs.Typed.{typed-jump};
@@ -90,6 +92,14 @@ fn perform(rt: &LibcRuntime, line: &str, lines: u64) -> io::Result<u64> {
             None => println!(rt, "not bytes in hexadecimal")?,
         },
         "edit" => edit_on(rt, rest)?,
+        "draw" => match rest.parse::<usize>() {
+            Ok(width) => showing::show(rt, width)?,
+            Err(_) => println!(rt, "not a width")?,
+        },
+        "recall" => {
+            let (path, keys) = rest.split_once(' ').unwrap_or((rest, ""));
+            remembering::recall(rt, path, keys)?;
+        }
         _ => println!(rt, "not understood")?,
     }
     Ok(lines)

@@ -1,0 +1,15 @@
+pub mod Ones
+pub mod RunsOut
+pub mod Steps
+pub mod Progress
+pub mod Framed
+pub mod Tests
+pub mod Cost
+pub mod Allowed
+pub mod Forgets
+pub mod Letter
+pub mod Visible
+pub mod Fresh
+pub mod Goes
+pub mod Sight
+pub mod Typed

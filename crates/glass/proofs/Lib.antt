@@ -1,0 +1,11 @@
+pub mod Front
+pub mod Text
+pub mod Blank
+pub mod Keeps
+pub mod Allowed
+pub mod Drew
+pub mod Performs
+pub mod Refusals
+pub mod Chars
+pub mod Showable
+pub mod Ties

@@ -1,0 +1,11 @@
+pub mod Fronts
+pub mod Cutting
+pub mod Texts
+pub mod Remaining
+pub mod Saving
+pub mod InHand
+pub mod Remembering
+pub mod Rewriting
+pub mod Machine
+pub mod GivenBack
+pub mod ReadAgain

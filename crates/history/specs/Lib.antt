@@ -1,0 +1,9 @@
+pub mod Limits
+pub mod Lines
+pub mod Loading
+pub mod Readable
+pub mod Spelling
+pub mod Session
+pub mod Writing
+pub mod Laws
+pub mod Examples

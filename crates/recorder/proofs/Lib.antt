@@ -1,0 +1,4 @@
+pub mod Encodes
+pub mod Puts
+pub mod Logs
+pub mod Steps
