@@ -1,12 +1,12 @@
 -- Bytes are cut at the first 0A.
 use mathlib.Core.Path.{_≡_, refl, sym, ap, _∙_}
-use mathlib.Core.Bool.{true, false}
+use mathlib.Core.Bool.{false}
 use mathlib.Core.List.{List, [], _∷_, _++_, append-nil, append-assoc}
-use Prim.Native.Nat.{ℕ, zero, suc, _+_, _-_, _≤_, _<_}
+use Prim.Native.Nat.{ℕ, suc, _+_, _<_}
 use native.Mathlib.Omega.{arith}
 use lib.Dec.{eqb}
 use lib.ListN.{length, getD, take, drop}
-use Rattle.std.proofs.shelf.Lists.{take-append-drop, drop-more, drop-all, take-all, getD-take, length-take-le, length-drop}
+use Rattle.std.proofs.shelf.Lists.{take-append-drop, drop-more, drop-all, getD-take, length-take-le}
 use Rattle.std.proofs.shelf.Tests.{ne-eqb}
 use Rattle.history.specs.Lines.{newline, without-return, unless-empty, lines-after, lines, NoNewline, LinesLaws}
 

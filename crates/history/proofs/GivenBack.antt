@@ -1,17 +1,15 @@
 -- A saved text is given back. Its spelling is the UTF-8 of characters, and those load to the text.
 use mathlib.Core.Path.{_≡_, refl, sym, ap, subst, _∙_}
-use mathlib.Core.Bool.{Bool, true, false, cond, _&&_}
-use mathlib.Core.List.{List, [], _∷_, _++_, append-nil, append-assoc}
-use mathlib.Core.Logic.{_⊎_, inl, inr, ⊎-elim}
-use Prim.Native.Nat.{ℕ, zero, suc, _+_, _-_, _*_, _/_, _%_, _≤_, _<_}
+use mathlib.Core.Bool.{true, false}
+use mathlib.Core.List.{List, [], _∷_, _++_, append-nil}
+use mathlib.Core.Logic.{_⊎_, inl, inr}
+use Prim.Native.Nat.{ℕ, _+_, _*_, _/_, _%_, _≤_, _<_}
 use native.Mathlib.Omega.{arith}
-use lib.Dec.{leb, ltb, eqb}
-use lib.ListN.{length, getD, take}
+use lib.Dec.{eqb}
+use lib.ListN.{length}
 use lib.Utf8.{scalar, scalars, encode, encodes, low-scalar}
-use Rattle.std.specs.Joined.{joined}
 use Rattle.std.specs.Vec.{listOf}
-use Rattle.std.specs.declared.option.Option.{Option}
-use Rattle.std.specs.declared.option.Option.the-variants.{None, Some}
+use Rattle.std.specs.declared.option.Option.the-variants.{Some}
 use Rattle.std.specs.shelf.Lists.{All}
 use Rattle.std.proofs.shelf.Elements.{all-append}
 use Rattle.std.proofs.shelf.Lists.{length-append}
@@ -25,7 +23,7 @@ use Rattle.draft.specs.Line.{capacity}
 use Rattle.draft.proofs.Scalars.{scalars-append}
 use Rattle.history.specs.declared.loader.Loader.the-variants.{Plain}
 use Rattle.history.specs.Limits.{longest-line, longest-spelling}
-use Rattle.history.specs.Loading.{backslash, small-x, plus, hex-value, first-value, paired, code-of, load-from, load}
+use Rattle.history.specs.Loading.{backslash, small-x, hex-value, first-value, paired, code-of, load-from, load}
 use Rattle.history.specs.Readable.{loaded, readable}
 use Rattle.history.specs.Spelling.{is-control, hex-digit, spelled-character, spell}
 use Rattle.history.specs.Laws.{Clean, DraftText}

@@ -1,8 +1,8 @@
 -- The draft in hand among the others.
 use mathlib.Core.HLevel.{isProp→PathP}
-use mathlib.Core.Path.{_≡_, refl, sym, ap, _∙_}
+use mathlib.Core.Path.{_≡_, sym, ap, _∙_}
 use mathlib.Core.List.{List, [], _∷_, map}
-use Prim.Native.Nat.{ℕ, _<_, _≤_}
+use Prim.Native.Nat.{_<_, _≤_}
 use native.Mathlib.Bridge.{le-prop}
 use native.Mathlib.Nat.{ℕ-set}
 use native.Mathlib.Omega.{arith}
@@ -18,7 +18,7 @@ use Rattle.draft.specs.Draft.{Draft, draft-of, Sound}
 use Rattle.draft.proofs.Drafts.{drafts-are-sound}
 use Rattle.history.specs.declared.store.PromptHistory.{PromptHistory}
 use Rattle.history.specs.Limits.{most-drafts}
-use Rattle.history.specs.Session.{Session, session, session-of, empty-draft, draft-in-hand, with-draft, Sessions-are-sound}
+use Rattle.history.specs.Session.{session, session-of, empty-draft, draft-in-hand, with-draft, Sessions-are-sound}
 
 pub drafts-counted : (h : PromptHistory) → length (session-of h .drafts) ≡ h .count
 drafts-counted h = length-map (take (h .count) (h .entries)) draft-of ∙ length-take-le (h .count) (h .entries) (omega (arith, h .ok))
@@ -32,7 +32,7 @@ sessions-are-sound h =
     let size = drafts-counted h in
     record {
       hand-within = omega (arith, h .ok .0);
-      at-most-most-drafts = omega (arith, h .ok .1);
+      few-enough = omega (arith, h .ok .1);
       drafts-are-sound = all-sound (take (h .count) (h .entries));
     }
 

@@ -1,19 +1,17 @@
 -- Lines that were written are read again.
-use mathlib.Core.Path.{_≡_, refl, sym, ap, subst, _∙_}
-use mathlib.Core.Bool.{Bool, true, false, cond}
+use mathlib.Core.Path.{_≡_, refl, sym, ap, _∙_}
+use mathlib.Core.Bool.{true, false}
 use mathlib.Core.List.{List, [], _∷_, _++_, map, append-nil, append-assoc}
-use mathlib.Core.Logic.{_⊎_, inl, inr, ⊎-elim}
-use Prim.Native.Nat.{ℕ, zero, suc, _+_, _-_, _≤_, _<_}
+use mathlib.Core.Logic.{⊎-elim}
+use Prim.Native.Nat.{ℕ, _-_, _≤_, _<_}
 use native.Mathlib.Omega.{arith}
 use lib.Dec.{eqb}
 use lib.ListN.{length, getD, take, drop}
-use Rattle.std.specs.Joined.{joined}
 use Rattle.std.specs.shelf.Lists.{All, kept-by}
-use Rattle.std.specs.shelf.Text.{sameBytes}
 use Rattle.std.proofs.shelf.Elements.{all-getD, all-append, all-drop, all-kept-by, kept-by-append, kept-by-passes}
 use Rattle.std.proofs.shelf.Equals.{sameBytes-decides}
-use Rattle.std.proofs.shelf.Lists.{joined-more, map-append, drop-append-le, length-append, length-push, getD-append-left, getD-push, getD-take, length-take, nil-from-length}
-use Rattle.std.proofs.shelf.Tests.{cases-bool, cases-lt, cond-true, cond-false, cond-both, ne-eqb, eqb-false, or-left, or-right, eq-eqb}
+use Rattle.std.proofs.shelf.Lists.{joined-more, map-append, drop-append-le, length-append, length-push, getD-append-left, getD-push, getD-take, length-take}
+use Rattle.std.proofs.shelf.Tests.{cases-bool, cases-lt, cond-true, cond-false, cond-both, ne-eqb, eqb-false, or-right}
 use Rattle.history.specs.Limits.{most-kept, most-remembered, longest-written}
 use Rattle.history.specs.Lines.{newline, carriage-return, without-return, unless-empty, lines-after, lines, NoNewline}
 use Rattle.history.specs.Readable.{loaded, readable, readable-lines, last-of}

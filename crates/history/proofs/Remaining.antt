@@ -2,20 +2,17 @@
 use mathlib.Core.Path.{_≡_, refl, sym, ap, _∙_}
 use mathlib.Core.Bool.{Bool, true, false, cond, _&&_}
 use mathlib.Core.List.{List, [], _∷_, _++_}
-use mathlib.Core.Logic.{_⊎_, inl, inr}
-use Prim.Native.Nat.{ℕ, zero, suc, _≤_, _<_, _+_, _-_}
+use Prim.Native.Nat.{ℕ, zero, suc, _≤_, _<_, _-_}
 use native.Mathlib.Omega.{arith}
 use lib.ListN.{length, drop}
 use Rattle.std.specs.Options.{isSome}
-use Rattle.std.specs.declared.option.Option.{Option}
 use Rattle.std.specs.declared.option.Option.the-variants.{None, Some}
 use Rattle.std.specs.shelf.Lists.{kept-by}
-use Rattle.std.proofs.shelf.Elements.{kept-by-append}
 use Rattle.std.proofs.shelf.Lists.{nil-from-length}
 use Rattle.std.proofs.shelf.Tests.{le-leb, lt-leb}
 use Rattle.history.specs.Limits.{longest-line}
 use Rattle.history.specs.Lines.{lines, unless-empty}
-use Rattle.history.specs.Readable.{loaded, loadable, loaded-count, readable, readable-lines, Leads, last-of}
+use Rattle.history.specs.Readable.{loaded, loadable, loaded-count, readable, readable-lines, Leads}
 use Rattle.history.proofs.Cutting.{no-lines}
 
 some-if : {X : Type 0} (b : Bool) (x : X) → isSome (cond b (Some x) None) ≡ b

@@ -1,26 +1,26 @@
 -- Lines of history become drafts.
-use mathlib.Core.Path.{_≡_, refl, sym, ap, subst, _∙_}
-use mathlib.Core.Bool.{Bool, true, false, cond, _&&_}
+use mathlib.Core.Path.{_≡_, refl, sym, ap, _∙_}
+use mathlib.Core.Bool.{Bool, true, false, cond}
 use mathlib.Core.List.{List, [], _∷_, _++_, map, append-nil, append-assoc}
-use Prim.Native.Nat.{ℕ, zero, suc, _+_, _-_, _*_, _≤_, _<_, min}
+use Prim.Native.Nat.{ℕ, _+_, _-_, _≤_, _<_}
 use native.Mathlib.Nat.{add-zero}
 use native.Mathlib.Omega.{arith}
 use lib.Dec.{leb, eqb, lit<}
 use lib.ListN.{length, getD, set, take, drop, replicate}
 use lib.Utf8.{scalar, scalars, low-scalar}
-use Rattle.std.specs.Options.{Cases, isSome}
+use Rattle.std.specs.Options.{Cases}
 use Rattle.std.specs.Vec.{listOf}
 use Rattle.std.specs.declared.option.Option.{Option}
 use Rattle.std.specs.declared.option.Option.the-variants.{None, Some}
-use Rattle.std.proofs.shelf.Lists.{take-more-set, drop-set-lt, drop-drop, drop-more, length-set, map-append, length-drop, length-map, take-more, getD-drop, getD-replicate}
-use Rattle.std.proofs.shelf.Tests.{and-parts, and-from, cond-both, le-leb, leb-true, cond-true, cond-false, cases-bool}
+use Rattle.std.proofs.shelf.Lists.{take-more-set, drop-set-lt, drop-drop, length-set, map-append, length-drop, length-map, take-more, getD-drop, getD-replicate}
+use Rattle.std.proofs.shelf.Tests.{and-parts, and-from, le-leb, leb-true, cond-true}
 use Rattle.std.proofs.shelf.Ways.{tells}
 use Rattle.text.specs.Scalars.{within}
-use Rattle.text.specs.Utf8.{characters, well-formed, WellFormed}
+use Rattle.text.specs.Utf8.{characters, well-formed}
 use Rattle.text.proofs.Spellings.{well-formed-decides, spelled-is-encoding, characters-spelled}
 use Rattle.draft.specs.declared.state.PromptState.{PromptState}
-use Rattle.draft.specs.Line.{capacity, line, empty-line}
-use Rattle.draft.specs.Draft.{Draft, draft, draft-of}
+use Rattle.draft.specs.Line.{capacity, line}
+use Rattle.draft.specs.Draft.{draft-of}
 use Rattle.draft.specs.Edits.{inserting, insertion-refused}
 use Rattle.draft.proofs.Drafts.{same-draft}
 use Rattle.draft.proofs.Scalars.{scalars-append}
@@ -113,9 +113,6 @@ pub record RememberedSoFar (lines rest : List ℕ) (old entries : List PromptSta
   pub counted : count + length (readable-lines rest) ≡ length (readable-lines lines)
   pub kept : drop count entries ≡ drop count old
   pub size : length entries ≡ most-drafts
-
-pub remembered-none : (lines : List ℕ) (old : List PromptState) → length old ≡ most-drafts → RememberedSoFar lines lines old old 0
-remembered-none lines old e = record { drafts = refl; counted = omega arith; kept = refl; size = e }
 
 pub remembered-more : (lines rest line after : List ℕ) (old entries : List PromptState) (count : ℕ) (s : PromptState) → RememberedSoFar lines rest old entries count → Leads rest line after → count < most-drafts → draft-of s ≡ remembered (loaded line)
     → RememberedSoFar lines after old (set entries count s) (count + 1)

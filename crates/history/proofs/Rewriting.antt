@@ -1,17 +1,16 @@
 -- Lines are written one after another.
-use mathlib.Core.Path.{_≡_, refl, sym, ap, subst, _∙_}
-use mathlib.Core.Bool.{Bool, true, false, cond}
+use mathlib.Core.Path.{_≡_, refl, sym, ap, _∙_}
+use mathlib.Core.Bool.{true, false, cond}
 use mathlib.Core.List.{List, [], _∷_, _++_, append-nil, append-assoc}
 use mathlib.Core.Logic.{⊎-elim}
-use Prim.Native.Nat.{ℕ, zero, suc, _+_, _-_, _*_, _≤_, _<_}
+use Prim.Native.Nat.{ℕ, suc, _+_, _-_, _*_, _≤_, _<_}
 use native.Mathlib.Omega.{arith}
 use borrow.Rule.Slice.PartMut.{putMid}
 use lib.Dec.{leb, eqb}
 use lib.ListN.{length, getD, set, take, drop}
-use Rattle.std.specs.Joined.{joined}
 use Rattle.std.specs.shelf.Lists.{All}
 use Rattle.std.specs.shelf.Text.{sameBytes}
-use Rattle.std.proofs.shelf.Elements.{kept-by-passes, all-drop}
+use Rattle.std.proofs.shelf.Elements.{kept-by-passes}
 use Rattle.std.proofs.shelf.Lists.{length-append, length-push, take-at, drop-at, drop-drop, drop-more, set-at, take-all, take-append-drop, length-take-le, joined-more, nil-from-length, length-drop}
 use Rattle.std.proofs.shelf.Tests.{cases-lt, and-parts, leb-true, or-from, or-left, or-right, cond-true, cond-false, le-leb, lt-leb}
 use Rattle.std.specs.declared.result.Result.the-variants.{Ok, Err}
@@ -69,9 +68,6 @@ pub record PutSoFar (lines rest old out : List ℕ) (at : ℕ) : Type 0 where
   pub back : drop at out ≡ drop at old
   pub size : length out ≡ length old
   pub counted : at + length (ended-lines (readable-lines rest)) ≡ length (ended-lines (readable-lines lines))
-
-pub put-none : (lines old : List ℕ) → PutSoFar lines lines old old 0
-put-none lines old = record { front = refl; back = refl; size = refl; counted = omega arith }
 
 -- a piece in the place of others
 module _ (out piece : List ℕ) (at : ℕ) (fits : at + length piece ≤ length out) where

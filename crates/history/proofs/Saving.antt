@@ -8,7 +8,7 @@ use Prim.Native.Nat.{ℕ, zero, suc, _+_, _-_, _*_, _≤_, _<_}
 use native.Mathlib.Omega.{arith}
 use lib.ListN.{length, getD, take, drop}
 use lib.Utf8.{scalar, scalars}
-use Rattle.std.proofs.shelf.Lists.{at-drop-more, at-drop-all, length-take-le, places}
+use Rattle.std.proofs.shelf.Lists.{at-drop-more, at-drop-all, places}
 use Rattle.std.proofs.shelf.Parts.{take-putMid}
 use Rattle.std.proofs.shelf.Tests.{and-parts}
 use Rattle.history.specs.Limits.{longest-spelling}

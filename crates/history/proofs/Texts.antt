@@ -9,11 +9,10 @@ use lib.Dec.{leb}
 use lib.ListN.{length, take, set}
 use Rattle.std.specs.Orderings.{Decides}
 use Rattle.std.specs.Vec.{listOf}
-use Rattle.std.specs.declared.option.Option.{Option}
 use Rattle.std.specs.declared.option.Option.the-variants.{None, Some}
 use Rattle.std.proofs.shelf.Lists.{nil-from-length, take-more-set, length-set, length-append, length-take-le}
 use Rattle.std.proofs.shelf.Tests.{cond-true, cond-false, and-from, le-leb, lt-leb, cases-bool, and-left, and-right}
-use Rattle.text.specs.Utf8.{Spells, nothing, then, WellFormed, Begins, NoneBegins, characters, well-formed}
+use Rattle.text.specs.Utf8.{Spells, nothing, then, WellFormed, Begins, NoneBegins, well-formed}
 use Rattle.text.proofs.Spellings.{one-spelling, characters-spelled, spells-more, spelled-first, well-formed-decides, longest-read}
 use Rattle.draft.specs.Line.{capacity}
 use Rattle.history.specs.declared.loader.Loader.{Loader}

@@ -1,8 +1,8 @@
 -- Worked by hand: lines, and the texts that they load to.
-use mathlib.Core.List.{List, [], _∷_}
+use mathlib.Core.List.{[], _∷_}
 use mathlib.Core.Path.{_≡_}
 use lib.Chars.{codes}
-use Rattle.history.specs.Loading.{backslash, small-x, plus}
+use Rattle.history.specs.Loading.{backslash}
 use Rattle.history.specs.Readable.{loaded}
 
 pub record LoadExamples : Type 0 where

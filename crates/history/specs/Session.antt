@@ -1,5 +1,4 @@
 -- What a history in memory means: its drafts, and which of them is in hand.
-use mathlib.Core.Path.{_≡_}
 use mathlib.Core.Bool.{cond}
 use mathlib.Core.List.{List, [], _∷_, _++_, map}
 use Prim.Native.Nat.{ℕ, _+_, _-_, _≤_, _<_}
@@ -76,7 +75,7 @@ told (Err refusal) = Err refusal
 -- one of at most 32 drafts is in hand, and each of them is a draft
 pub record SoundSession (s : Session) : Type 0 where
   pub hand-within : s .hand < length (s .drafts)
-  pub at-most-most-drafts : length (s .drafts) ≤ most-drafts
+  pub few-enough : length (s .drafts) ≤ most-drafts
   pub drafts-are-sound : All Sound (s .drafts)
 
 abbrev pub Sessions-are-sound : Type 0

@@ -1,7 +1,6 @@
 // Readable lines of history, and the text that they load to.
 ghost use mathlib.Core.Path.{_≡_};
-ghost use mathlib.Core.Bool.{true};
-ghost use mathlib.Core.List.{[], _∷_};
+ghost use mathlib.Core.List.{[]};
 ghost use lib.ListN.{length, take};
 ghost use Rattle.std.specs.Options.{Cases};
 ghost use Rattle.history.specs.Readable.{loaded, loaded-count, readable, readable-lines, Leads, last-of};

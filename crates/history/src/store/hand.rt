@@ -1,6 +1,6 @@
 // The draft in hand: which it is, and what it holds.
 ghost use mathlib.Core.Path.{_≡_};
-ghost use lib.ListN.{getD, set};
+ghost use lib.ListN.{getD};
 ghost use Rattle.draft.specs.Draft.{draft-of};
 ghost use Rattle.history.specs.Session.{session-of, draft-in-hand, with-draft, going-back, answer-back, going-on, answer-on};
 ghost use Rattle.std.specs.Vec.{made, refused};

@@ -1,4 +1,4 @@
-use mathlib.Core.Path.{sym, ap, _∙_}
+use mathlib.Core.Path.{ap, _∙_}
 use Rattle.std.specs.Options.{isSome}
 use Rattle.history.proofs.Remaining.{readable-if-loaded, too-long}
 use Rattle.history.proofs.readable.is_readable.Needs as need

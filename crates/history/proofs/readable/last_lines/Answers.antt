@@ -1,5 +1,4 @@
-use mathlib.Core.Path.{sym, ap, _∙_}
-use lib.ListN.{drop}
+use mathlib.Core.Path.{sym, _∙_}
 use native.Mathlib.Omega.{arith}
 use Rattle.history.proofs.Remaining.{dropped-more, dropped-none}
 use Rattle.history.proofs.readable.last_lines.Needs as need

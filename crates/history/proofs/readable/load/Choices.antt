@@ -1,7 +1,4 @@
 use lib.ListN.{length}
-use Prim.Native.Nat.{_≤_}
-use mathlib.Core.Path.{_≡_}
-use Rattle.draft.specs.Line.{capacity}
 use Rattle.history.proofs.Texts.{LoadedSoFar}
 use Rattle.history.proofs.readable.load.Given as given
 

@@ -1,5 +1,3 @@
-use Prim.Native.Nat.{_≤_}
-use lib.ListN.{length}
 use Rattle.history.proofs.Saving.{SpelledSoFar}
 use Rattle.history.proofs.spelling.spell.Given as given
 

@@ -1,5 +1,5 @@
 use native.Mathlib.Omega.{arith}
-use Rattle.history.proofs.Rewriting.{ended-more, put-none, put-more, put-all}
+use Rattle.history.proofs.Rewriting.{ended-more, put-more, put-all}
 use Rattle.history.proofs.writing.put_lines.Needs as need
 
 pub put-line-at-requires : need.put-line-at-requires

@@ -1,4 +1,4 @@
-use mathlib.Core.Path.{_≡_, refl, sym, ap, _∙_}
+use mathlib.Core.Path.{refl, ap, _∙_}
 use lib.ListN.{getD}
 use Rattle.std.proofs.shelf.Results.{made-weaker}
 use Rattle.draft.specs.declared.action.DisplayAction.the-variants.{Redraw}

@@ -1,4 +1,4 @@
-use mathlib.Core.Path.{_≡_, sym, ap, _∙_}
+use mathlib.Core.Path.{sym, ap, _∙_}
 use lib.ListN.{getD}
 use Rattle.draft.specs.Draft.{draft-of}
 use Rattle.history.proofs.InHand.{entry-in-hand}

@@ -1,7 +1,7 @@
 use native.Mathlib.Omega.{arith}
-use mathlib.Core.Path.{_≡_, ap}
+use mathlib.Core.Path.{ap}
 use lib.ListN.{length}
-use Rattle.history.proofs.Remembering.{remembered-none, remembered-more, remembered-all}
+use Rattle.history.proofs.Remembering.{remembered-more, remembered-all}
 use Rattle.history.proofs.store.open.remember.Needs as need
 
 pub loop-line-again : need.loop-line-again
