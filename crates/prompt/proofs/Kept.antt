@@ -141,7 +141,7 @@ module _ (columns : ℕ → Columns) (w c : ℕ) (s : Session) where
   motion-is-no-letter motion.Start e = let z : _≡_ {A = ℕ} 0 1 = cc in omega arith
   motion-is-no-letter motion.End e = let z : _≡_ {A = ℕ} 0 1 = cc in omega arith
 
-  abbrev GoesAlone : Type 0
+  abbrev pub GoesAlone : Type 0
   GoesAlone = goes-out-alone columns (room w s) c (draft-in-hand s) ≡ true
 
   letter-by : (x : Edit) → answer-to-edit columns (room w s) x c (draft-in-hand s) ≡ action.Letter → (x ≡ Insert) × GoesAlone
@@ -150,7 +150,7 @@ module _ (columns : ℕ → Columns) (w c : ℕ) (s : Session) where
   letter-by (Move m) e = absurd (motion-is-no-letter m e)
   letter-by Transpose e = absurd (no-letter _ e)
 
-  letter-typed : (o : Operation) → action-of columns w o c s ≡ action.Letter → (o ≡ operation.Edit Insert) × GoesAlone
+  pub letter-typed : (o : Operation) → action-of columns w o c s ≡ action.Letter → (o ≡ operation.Edit Insert) × GoesAlone
   letter-typed operation.Finish e = absurd (let z : _≡_ {A = ℕ} 0 1 = cc in omega arith)
   letter-typed operation.Cancel e = absurd (let z : _≡_ {A = ℕ} 0 1 = cc in omega arith)
   letter-typed (operation.Edit x) e = let t = letter-by x e in (ap operation.Edit (t .0), t .1)

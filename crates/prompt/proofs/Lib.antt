@@ -1,5 +1,6 @@
 pub mod Agrees
 pub mod Kept
+pub mod Pressed
 pub mod Ready
 pub mod Runs
 pub mod Table

@@ -59,12 +59,15 @@ scalars-each [] i = refl
 scalars-each (x ∷ xs) zero = drafts-are-sound x .scalar-values
 scalars-each (x ∷ xs) (suc i) = scalars-each xs i
 
+pub few-in-hand : (p : Prompt) → length (draft-in-hand (session p) .line .text) ≤ capacity
+few-in-hand p = few-each (take (p .history .count) (p .history .entries)) (p .history .«active_index»)
+
 pub can-draw : (columns : ℕ → Columns) (p : Prompt) (r : Row) (w s : ℕ) → w ≡ width-of r → p .«label_len» + 9 ≤ w → w ≤ 512 → 1298 ≤ s → Allowed columns (drawn columns w (session p)) r s
 can-draw columns p r w s q wide narrow pay =
     let ds = take (p .history .count) (p .history .entries) in
     subst (λ (v : ℕ). Allowed columns (drawn columns v (session p)) r s) (sym q)
     (drawing-is-allowed columns (session p .label) (draft-in-hand (session p)) r s (p .titled .2) (omega (arith, length-take (p .«label_len») (p .label), p .titled .1))
-    (omega arith) (omega arith) (few-each ds (p .history .«active_index»)) (scalars-each ds (p .history .«active_index»)) pay)
+    (omega arith) (omega arith) (few-in-hand p) (scalars-each ds (p .history .«active_index»)) pay)
 
 pub may-draw : (columns : ℕ → Columns) (p : Prompt) (r : Row) (w s m : ℕ) → w ≡ width-of r → refusal draw (p .«label_len») w s m ≡ None → Allowed columns (drawn columns w (session p)) r s
 may-draw columns p r w s m q e =

@@ -174,4 +174,22 @@ impl Prompt {
             DisplayAction::Nothing | DisplayAction::Finish | DisplayAction::Cancel => {}
         }
     }
+
+    /// Does what a key asks for, and shows it.
+    pub fn key<G: Glass>(
+        &mut self,
+        glass: &mut G,
+        modifiers: Modifiers,
+        key: KeyCode,
+        code: u32,
+    ) -> Result<DisplayAction, Refusal>
+        ensures one_call { λ r. ⌜ OneCall (Font·Font .columns) (G·Glass .row) (G·Glass .spare) (Request.key modifiers key code) (now (self .entry)) (now (glass .entry)) (answered-by r) (now (self .exit)) (now (glass .exit)) ⌝ }
+    {
+        let width = G::width(glass);
+        ready(self.label_len, width, G::spare_left(glass))?;
+        let c = character(key, code)?;
+        let action = self.dispatch_key::<G::Font>(operation_of(modifiers, key, c), code, width)?;
+        self.show(glass, action, code, width);
+        Ok(action)
+    }
 }
