@@ -3,7 +3,7 @@ use Rattle.std.proofs.Common.{◌≡◌, ℕ, zero, suc, ◌+◌, ◌-◌, ◌/�
 use borrow.Rule.Slice.PartMut.{put_mid}
 use lib.Utf8.{scalars}
 use Rattle.std.proofs.ByRecursion.{All-push, All-take}
-use Rattle.std.proofs.lemmas.List.{append_assoc, append-nil, take_more_set, drop_all, drop_set, length-append, length-drop, length_push, length-set, length-take}
+use Rattle.std.proofs.lemmas.List.{append_assoc, append-nil, take_more_set, drop_all, drop-set, length-append, length-drop, length_push, length-set, length-take}
 use Rattle.std.proofs.lemmas.Slice.{take-put_mid}
 use Rattle.std.proofs.lemmas.Bool.Decides.{nat_tests}
 use Rattle.std.specs.List.{AllByRecursion as All}
@@ -23,7 +23,7 @@ hex_none n places = rw (drop_all (length places) places (omega arith)) (append-n
 one_written : (j n digit : ℕ) (places : List ℕ) → j < length places → digit ≡ hex_digit (n % 16)
     → hex j (n / 16) ++ drop j (set places j digit) ≡ hex (suc j) n ++ drop (suc j) places
 one_written j n digit places h e =
-    rw (drop_set places j digit h, add-one, e) (sym (append_assoc (hex j (n / 16)) (hex_digit (n % 16) ∷ []) (drop (suc j) places)))
+    rw (drop-set places j digit h, add-one, e) (sym (append_assoc (hex j (n / 16)) (hex_digit (n % 16) ∷ []) (drop (suc j) places)))
 
 pub hex_more : (i n number digit : ℕ) (places : List ℕ) → 0 < i → i ≤ length places → digit ≡ hex_digit (n % 16)
     → hex i n ++ drop i places ≡ hex (length places) number
