@@ -1,29 +1,32 @@
-// The booking console's prompt: reads a script from its standard input, one call to a line, and prints what each call did. The
-// README describes the script. A line that is empty or begins with # is passed over.
-mod keys;
-mod rows;
-mod session;
+// The booking console's prompt, as far as it goes: reads a script from its standard input, one call to a line, and prints what
+// each call did. The README describes the script. A line that is empty or begins with # is passed over.
+mod editing;
+mod remembering;
 mod showing;
 
-use cells::cell_row::CellRow;
-use font::foyer::FoyerFont;
-use glass::Glass;
-use jump::goto::Jump;
-use prompt::state::Prompt;
-use session::{Asked, Session};
+ghost use Rattle.std.specs.Prelude.{◌≡◌};
+ghost use Rattle.console.specs.Typed.{typed_jump};
+
+use jump::goto::{Jump, goto};
 use std::alloc::{AllocError, Global};
+use std::io;
 use std::io::Read;
-use std::{fs, io};
 use text::refusal::Refusal;
+use text::utf8;
 
-/// The columns of the row on which a text is typed whole.
-const COLUMNS: usize = 40;
+/// The most characters that are typed as one text.
+const MOST_CHARACTERS: usize = 256;
 
-/// The console: the length of the listing, and the session that is open, if one is.
-#[derive(Drop)]
-struct Console {
-    lines: u64,
-    session: Option<Session>,
+/// Takes the bytes as the text that was typed, and jumps by it.
+fn jump_by(bytes: &[u8], lines: u64) -> Result<Jump, Refusal>
+    ensures value { result ≡ typed_jump bytes.now lines }
+{
+    let mut chars = [0; MOST_CHARACTERS];
+    let count = utf8::decode(bytes, &mut chars)?;
+    if count > MOST_CHARACTERS {
+        return Err(Refusal::DraftFull);
+    }
+    goto(&chars[0..count], lines)
 }
 
 /// The bytes that words of two hexadecimal digits spell. None where a word is anything else.
@@ -48,7 +51,7 @@ pub(crate) fn print_refusal(rt: &HostRuntime, refusal: Refusal) -> io::Result<()
     }
 }
 
-pub(crate) fn print_jump(rt: &HostRuntime, answer: Result<Jump, Refusal>) -> io::Result<()> {
+fn print_jump(rt: &HostRuntime, answer: Result<Jump, Refusal>) -> io::Result<()> {
     match answer {
         Ok(Jump::Quit) => println!(rt; "quit"),
         Ok(Jump::Stay) => println!(rt; "stay"),
@@ -57,129 +60,61 @@ pub(crate) fn print_jump(rt: &HostRuntime, answer: Result<Jump, Refusal>) -> io:
     }
 }
 
-/// A prompt of its own for one text: it is pasted, finished, and jumped by.
-fn jump_by(bytes: &[u8], lines: u64) -> Result<Jump, Refusal> {
-    let mut prompt = Prompt::open(b"Go to line:", &[])?;
-    let mut row: CellRow<FoyerFont> = CellRow::new(COLUMNS)?;
-    prompt.paste(&mut row, bytes)?;
-    prompt.finish().jump(lines)
-}
-
-/// Opens a session: the width of the row comes first, and then the file of the history, if there is one.
-fn open(rt: &HostRuntime, rest: &str) -> io::Result<Option<Session>> {
-    let (width, path) = rest.split_once(' ').unwrap_or((rest, ""));
-    let Ok(width) = width.parse::<usize>() else {
-        println!(rt; "not a width")?;
-        return Ok(None);
-    };
-    let history = if path.is_empty() {
-        Vec::new(rt.alloc())
-    } else {
-        fs::read(rt, path)?
-    };
-    match session::open(rt, width, history)? {
-        Ok(session) => {
-            println!(rt; "opened")?;
-            Ok(Some(session))
+/// Edits a draft: the width of the row comes first, and then the keys.
+fn edit_on(rt: &HostRuntime, rest: &str) -> io::Result<()> {
+    let (width, keys) = rest.split_once(' ').unwrap_or((rest, ""));
+    match width.parse::<usize>() {
+        Ok(width) => {
+            println!(rt; "an empty draft")?;
+            editing::edit(rt, width, keys)
         }
-        Err(refusal) => {
-            print_refusal(rt, refusal)?;
-            Ok(None)
-        }
+        Err(_) => println!(rt; "not a width"),
     }
 }
 
-/// Presses the keys one after another.
-fn press(rt: &HostRuntime, session: &mut Session, words: &str) -> io::Result<()> {
-    println!(rt)?;
-    for word in words.split_whitespace() {
-        print!(rt; " {word} => ")?;
-        match keys::key_of(word) {
-            Some(key) => session.make(rt, Asked::Press(key))?,
-            None => println!(rt; "no such key")?,
-        }
-    }
-    Ok(())
-}
-
-/// A call of the session that is open.
-fn call(rt: &HostRuntime, session: &mut Session, verb: &str, rest: &str) -> io::Result<()> {
+/// Does what one line of the script says, and gives the length of the listing after it.
+fn perform(rt: &HostRuntime, line: &str, lines: u64) -> io::Result<u64> {
+    print!(rt; "{line} => ")?;
+    let (verb, rest) = line.split_once(' ').unwrap_or((line, ""));
     match verb {
-        "draw" => session.make(rt, Asked::Draw),
-        "press" => press(rt, session, rest),
+        "listing" => match rest.parse::<u64>() {
+            Ok(count) => {
+                println!(rt; "{count} lines")?;
+                return Ok(count);
+            }
+            Err(_) => println!(rt; "not a number of lines")?,
+        },
+        "type" => print_jump(rt, jump_by(rest.as_bytes(), lines))?,
         "paste" => match bytes_from_hex(rt.alloc(), rest)? {
-            Some(bytes) => session.make(rt, Asked::Paste(bytes)),
-            None => println!(rt; "not bytes in hexadecimal"),
+            Some(bytes) => print_jump(rt, jump_by(bytes.as_slice(), lines))?,
+            None => println!(rt; "not bytes in hexadecimal")?,
         },
-        "resize" => match rest.parse::<usize>() {
-            Ok(width) => session.make(rt, Asked::Resize(width)),
-            Err(_) => println!(rt; "not a width"),
+        "edit" => edit_on(rt, rest)?,
+        "draw" => match rest.parse::<usize>() {
+            Ok(width) => showing::show(rt, width)?,
+            Err(_) => println!(rt; "not a width")?,
         },
-        "record" => session.record(rt),
-        _ => println!(rt; "not understood"),
+        "recall" => {
+            let (path, keys) = rest.split_once(' ').unwrap_or((rest, ""));
+            remembering::recall(rt, path, keys)?;
+        }
+        _ => println!(rt; "not understood")?,
     }
+    Ok(lines)
 }
 
-impl Console {
-    /// A line that stands for itself, outside of sessions.
-    fn single(&mut self, rt: &HostRuntime, verb: &str, rest: &str) -> io::Result<()> {
-        match verb {
-            "listing" => match rest.parse::<u64>() {
-                Ok(count) => {
-                    self.lines = count;
-                    println!(rt; "{count} lines")
-                }
-                Err(_) => println!(rt; "not a number of lines"),
-            },
-            "type" => print_jump(rt, jump_by(rest.as_bytes(), self.lines)),
-            "bytes" => match bytes_from_hex(rt.alloc(), rest)? {
-                Some(bytes) => print_jump(rt, jump_by(bytes.as_slice(), self.lines)),
-                None => println!(rt; "not bytes in hexadecimal"),
-            },
-            "both" => match rest.parse::<usize>() {
-                Ok(width) => showing::show(rt, width),
-                Err(_) => println!(rt; "not a width"),
-            },
-            "open" => {
-                self.session = open(rt, rest)?;
-                Ok(())
-            }
-            _ => println!(rt; "not understood"),
-        }
-    }
-
-    /// Does what one line of the script says.
-    fn perform(&mut self, rt: &HostRuntime, line: &str) -> io::Result<()> {
-        print!(rt; "{line} => ")?;
-        let (verb, rest) = line.split_once(' ').unwrap_or((line, ""));
-        match self.session.take() {
-            None => self.single(rt, verb, rest),
-            Some(session) if verb == "finish" => session.finish(rt, self.lines),
-            Some(_) if verb == "cancel" => println!(rt; "cancelled"),
-            Some(mut session) => {
-                let end = call(rt, &mut session, verb, rest);
-                self.session = Some(session);
-                end
-            }
-        }
-    }
-}
-
-fn read_script(rt: &HostRuntime) -> anyhow::Result<()> {
+fn run(rt: &HostRuntime) -> anyhow::Result<()> {
     let mut script = String::new(rt.alloc());
     let _ = rt.stdin().read_to_string(&mut script)?;
-    let mut console = Console {
-        lines: 0,
-        session: None,
-    };
+    let mut lines = 0;
     for line in script.as_str().lines() {
         if !line.is_empty() && !line.starts_with('#') {
-            console.perform(rt, line)?;
+            lines = perform(rt, line, lines)?;
         }
     }
     Ok(())
 }
 
 fn main(rt: HostRuntime) -> anyhow::Result<()> {
-    read_script(&rt)
+    run(&rt)
 }

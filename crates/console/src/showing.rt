@@ -1,10 +1,12 @@
-// One drawing made by hand, on both glasses under the foyer font.
+// One drawing on both glasses, under the foyer font: the cell row as a person sees it, and the record in hexadecimal.
 use crate::print_refusal;
-use crate::rows::{front, print_hex, print_row};
+use cells::cell_row::CellRow;
+use cells::table::{BLANK, Slot};
 use font::foyer::FoyerFont;
-use glass::PenChange;
 use glass::calls::{Call, Stopped};
+use glass::{Colours, Glass, Ink, Pen, PenChange};
 use mirror::draw_both;
+use std::alloc::{AllocError, Global};
 use std::io;
 
 /// The bytes that a drawing is recorded in.
@@ -21,6 +23,59 @@ const SEAT: [u32; 4] = [0x65, 0x301, 0x5EA7, 0x37];
 
 /// "<09>", as a label is shown: reversed.
 const TAB: [u32; 4] = [0x3C, 0x30, 0x39, 0x3E];
+
+/// Shows a cell's character and its marks, in the columns that it takes.
+fn push_cell(line: &mut String, row: &CellRow<FoyerFont>, column: usize) -> Result<(), AllocError> {
+    match row.cell(column).unwrap_or(BLANK).ink {
+        Ink::Blank => line.push(' ')?,
+        Ink::Shown(code) => line.push(char::from_u32(code).unwrap_or('?'))?,
+        Ink::RightHalf => (),
+    }
+    for mark in row.marks(column) {
+        line.push(char::from_u32(mark.code).unwrap_or('?'))?;
+    }
+    Ok(())
+}
+
+/// The sign of a pen: `.` plain, `p` the prompt's colours, and `:` or `P` the same reversed.
+fn sign_of(pen: Pen) -> char {
+    match (pen.colours, pen.reversed) {
+        (Colours::Plain, false) => '.',
+        (Colours::Plain, true) => ':',
+        (Colours::Prompt, false) => 'p',
+        (Colours::Prompt, true) => 'P',
+    }
+}
+
+fn cells_as_text(heap: Global, row: &CellRow<FoyerFont>) -> Result<String, AllocError> {
+    let mut line = String::new(heap);
+    for column in 0..row.width() {
+        push_cell(&mut line, row, column)?;
+    }
+    Ok(line)
+}
+
+/// The signs of the pens, and `_` for the cell that the cursor is on.
+fn pens_as_text(heap: Global, row: &CellRow<FoyerFont>) -> Result<String, AllocError> {
+    let mut line = String::new(heap);
+    for column in 0..row.width() {
+        if column == row.cursor() {
+            line.push('_')?;
+        } else {
+            let slot: Slot = row.cell(column).unwrap_or(BLANK);
+            line.push(sign_of(slot.pen))?;
+        }
+    }
+    Ok(line)
+}
+
+fn print_hex(rt: &HostRuntime, bytes: &[u8], used: usize) -> io::Result<()> {
+    print!(rt; "  record")?;
+    for byte in bytes.iter().take(used) {
+        print!(rt; " {byte:02X}")?;
+    }
+    println!(rt)
+}
 
 fn print_end(rt: &HostRuntime, end: Result<(), Stopped>) -> io::Result<()> {
     match end {
@@ -50,9 +105,12 @@ pub fn show(rt: &HostRuntime, width: usize) -> io::Result<()> {
     match draw_both::<FoyerFont>(LINE, width, &calls, &mut buffer) {
         Ok(both) => {
             println!(rt; "drawn")?;
-            print_row(rt, &both.cells)?;
+            let line = cells_as_text(rt.alloc(), &both.cells)?;
+            println!(rt; "  cells  [{line}]")?;
+            let pens = pens_as_text(rt.alloc(), &both.cells)?;
+            println!(rt; "  pens   [{pens}]")?;
             print_end(rt, both.drawn)?;
-            print_hex(rt, front(&buffer, both.used))?;
+            print_hex(rt, &buffer, both.used)?;
             print_end(rt, both.recorded)
         }
         Err(refusal) => print_refusal(rt, refusal),

@@ -50,8 +50,8 @@ fn fitting<F: Font>(run: &[u32], column: usize, width: usize) -> Fit
 
 /// A run goes out as one text, unless it is empty.
 fn send<G: Glass>(glass: &mut G, run: &[u32])
-    requires allowed { Allowed Font-as-Font.columns (sent run.now []) (G.Glass.row glass.old) (G.Glass.spare glass.old) }
-    ensures drew { Drew Font-as-Font.columns G.Glass.row G.Glass.spare G.Glass.tied (sent run.now []) glass.old glass.new }
+    requires allowed { Allowed G.Font.Font.columns (sent run.now []) (G.Glass.row glass.old) (G.Glass.spare glass.old) }
+    ensures drew { Drew G.Font.Font.columns G.Glass.row G.Glass.spare G.Glass.tied (sent run.now []) glass.old glass.new }
 {
     match run {
         [] => {}
@@ -62,10 +62,10 @@ fn send<G: Glass>(glass: &mut G, run: &[u32])
 /// A label, reversed and cut to the columns left. Gives the column after it.
 fn draw_label<G: Glass>(glass: &mut G, code: u32, column: usize, width: usize) -> usize
     requires inside { (column ≤ width) × (width ≤ widest) }
-    requires allowed { Allowed Font-as-Font.columns (reversed (take (width - column) (spelling code)) []) (G.Glass.row glass.old) (G.Glass.spare glass.old) }
+    requires allowed { Allowed G.Font.Font.columns (reversed (take (width - column) (spelling code)) []) (G.Glass.row glass.old) (G.Glass.spare glass.old) }
     ensures value { result ≡ column + length (take (width - column) (spelling code)) }
     ensures bound { result ≤ width }
-    ensures drew { Drew Font-as-Font.columns G.Glass.row G.Glass.spare G.Glass.tied (reversed (take (width - column) (spelling code)) []) glass.old glass.new }
+    ensures drew { Drew G.Font.Font.columns G.Glass.row G.Glass.spare G.Glass.tied (reversed (take (width - column) (spelling code)) []) glass.old glass.new }
 {
     let label = Label::of(code);
     let shown = label.truncated(width - column);
@@ -86,8 +86,8 @@ fn left_after(stopped: bool, after: &[u32]) -> &[u32]
 /// character that would pass its end.
 pub fn draw_text<G: Glass>(glass: &mut G, chars: &[u32], start: usize, width: usize)
     requires inside { (start ≤ width) × (width ≤ widest) }
-    requires allowed { Allowed Font-as-Font.columns (pieces Font-as-Font.columns width start [] chars.now) (G.Glass.row glass.old) (G.Glass.spare glass.old) }
-    ensures drew { Drew Font-as-Font.columns G.Glass.row G.Glass.spare G.Glass.tied (pieces Font-as-Font.columns width start [] chars.now) glass.old glass.new }
+    requires allowed { Allowed G.Font.Font.columns (pieces G.Font.Font.columns width start [] chars.now) (G.Glass.row glass.old) (G.Glass.spare glass.old) }
+    ensures drew { Drew G.Font.Font.columns G.Glass.row G.Glass.spare G.Glass.tied (pieces G.Font.Font.columns width start [] chars.now) glass.old glass.new }
 {
     let mut rest = chars;
     let mut column = start;
@@ -142,8 +142,8 @@ fn titled(label: &[u32]) -> Title
 /// The label, the characters after it, and the cursor placed.
 pub fn draw<G: Glass>(glass: &mut G, label: &[u32], shown: &[u32], cursor: usize, width: usize)
     requires inside { (length label.now ≤ longest_label) × (length label.now + 4 ≤ width) × (width ≤ widest) }
-    requires allowed { Allowed Font-as-Font.columns (framed Font-as-Font.columns label.now shown.now cursor width) (G.Glass.row glass.old) (G.Glass.spare glass.old) }
-    ensures drew { Drew Font-as-Font.columns G.Glass.row G.Glass.spare G.Glass.tied (framed Font-as-Font.columns label.now shown.now cursor width) glass.old glass.new }
+    requires allowed { Allowed G.Font.Font.columns (framed G.Font.Font.columns label.now shown.now cursor width) (G.Glass.row glass.old) (G.Glass.spare glass.old) }
+    ensures drew { Drew G.Font.Font.columns G.Glass.row G.Glass.spare G.Glass.tied (framed G.Font.Font.columns label.now shown.now cursor width) glass.old glass.new }
 {
     let title = titled(label);
     let title_len = title.len;

@@ -7,8 +7,8 @@ use glass::{Glass, PenChange};
 
 /// Sets the cursor's column.
 pub fn place<G: Glass>(glass: &mut G, column: usize)
-    requires allowed { Allowed Font-as-Font.columns (GlassCall.place column ∷ []) (G.Glass.row glass.old) (G.Glass.spare glass.old) }
-    ensures drew { Drew Font-as-Font.columns G.Glass.row G.Glass.spare G.Glass.tied (GlassCall.place column ∷ []) glass.old glass.new }
+    requires allowed { Allowed G.Font.Font.columns (GlassCall.place column ∷ []) (G.Glass.row glass.old) (G.Glass.spare glass.old) }
+    ensures drew { Drew G.Font.Font.columns G.Glass.row G.Glass.spare G.Glass.tied (GlassCall.place column ∷ []) glass.old glass.new }
 {
     match glass.place(column) {
         Ok(()) => {}
@@ -18,8 +18,8 @@ pub fn place<G: Glass>(glass: &mut G, column: usize)
 
 /// Changes the pen.
 pub fn pen<G: Glass>(glass: &mut G, change: PenChange)
-    requires allowed { Allowed Font-as-Font.columns (GlassCall.pen change ∷ []) (G.Glass.row glass.old) (G.Glass.spare glass.old) }
-    ensures drew { Drew Font-as-Font.columns G.Glass.row G.Glass.spare G.Glass.tied (GlassCall.pen change ∷ []) glass.old glass.new }
+    requires allowed { Allowed G.Font.Font.columns (GlassCall.pen change ∷ []) (G.Glass.row glass.old) (G.Glass.spare glass.old) }
+    ensures drew { Drew G.Font.Font.columns G.Glass.row G.Glass.spare G.Glass.tied (GlassCall.pen change ∷ []) glass.old glass.new }
 {
     match glass.pen(change) {
         Ok(()) => {}
@@ -29,8 +29,8 @@ pub fn pen<G: Glass>(glass: &mut G, change: PenChange)
 
 /// Shows characters at the cursor.
 pub fn text<G: Glass>(glass: &mut G, chars: &[u32])
-    requires allowed { Allowed Font-as-Font.columns (GlassCall.text chars.now ∷ []) (G.Glass.row glass.old) (G.Glass.spare glass.old) }
-    ensures drew { Drew Font-as-Font.columns G.Glass.row G.Glass.spare G.Glass.tied (GlassCall.text chars.now ∷ []) glass.old glass.new }
+    requires allowed { Allowed G.Font.Font.columns (GlassCall.text chars.now ∷ []) (G.Glass.row glass.old) (G.Glass.spare glass.old) }
+    ensures drew { Drew G.Font.Font.columns G.Glass.row G.Glass.spare G.Glass.tied (GlassCall.text chars.now ∷ []) glass.old glass.new }
 {
     match glass.text(chars) {
         Ok(()) => {}
@@ -40,8 +40,8 @@ pub fn text<G: Glass>(glass: &mut G, chars: &[u32])
 
 /// Makes the cells from the cursor on blank.
 pub fn clear<G: Glass>(glass: &mut G)
-    requires allowed { Allowed Font-as-Font.columns (GlassCall.clear ∷ []) (G.Glass.row glass.old) (G.Glass.spare glass.old) }
-    ensures drew { Drew Font-as-Font.columns G.Glass.row G.Glass.spare G.Glass.tied (GlassCall.clear ∷ []) glass.old glass.new }
+    requires allowed { Allowed G.Font.Font.columns (GlassCall.clear ∷ []) (G.Glass.row glass.old) (G.Glass.spare glass.old) }
+    ensures drew { Drew G.Font.Font.columns G.Glass.row G.Glass.spare G.Glass.tied (GlassCall.clear ∷ []) glass.old glass.new }
 {
     match glass.clear() {
         Ok(()) => {}
@@ -51,8 +51,8 @@ pub fn clear<G: Glass>(glass: &mut G)
 
 /// Makes the row a blank one of a new width.
 pub fn reshape<G: Glass>(glass: &mut G, width: usize)
-    requires allowed { Allowed Font-as-Font.columns (GlassCall.reshape width ∷ []) (G.Glass.row glass.old) (G.Glass.spare glass.old) }
-    ensures drew { Drew Font-as-Font.columns G.Glass.row G.Glass.spare G.Glass.tied (GlassCall.reshape width ∷ []) glass.old glass.new }
+    requires allowed { Allowed G.Font.Font.columns (GlassCall.reshape width ∷ []) (G.Glass.row glass.old) (G.Glass.spare glass.old) }
+    ensures drew { Drew G.Font.Font.columns G.Glass.row G.Glass.spare G.Glass.tied (GlassCall.reshape width ∷ []) glass.old glass.new }
 {
     match glass.reshape(width) {
         Ok(()) => {}

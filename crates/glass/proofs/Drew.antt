@@ -1,14 +1,11 @@
 -- Calls that are allowed and made one after another.
-use Rattle.std.proofs.Common.{◌≡◌, ℕ, ◌+◌, ◌<◌, ◌≤◌, Bool, true, false, cond, ltb, List, [], ◌∷◌, ◌++◌, length, get_or, take, Some, None, Option, sym, refl, ap, ◌∙◌, subst, append_assoc, arith, ltb-false}
+use Rattle.std.proofs.Common.{◌≡◌, ℕ, ◌+◌, ◌<◌, ◌≤◌, Bool, true, false, cond, ltb, List, [], ◌∷◌, ◌++◌, length, get_or, take, Some, None, Option, sym, refl, ap, ◌∙◌, subst, arith, ltb-false}
 use Rattle.std.proofs.lemmas.List.{take_more, take_all}
 use Rattle.font.specs.declared.Columns.{Columns}
 use Rattle.text.specs.declared.refusal.Refusal.{Refusal}
 use Rattle.glass.specs.Row.{Row, width_of}
-use Rattle.glass.specs.Calls.{GlassCall, clear, apply, apply_all, cost, cost_of_all, refused, Allowed}
-use Rattle.glass.specs.Ties.{Tied}
-use Rattle.glass.specs.Drew.{Drew, Leads}
+use Rattle.glass.specs.Calls.{GlassCall, clear, apply, apply_all, cost, cost_of_all, refused, Allowed, Drew, Leads}
 use Rattle.glass.proofs.Allowed.{ltb_not}
-use Rattle.glass.proofs.Ties.{tied_still, tied_then}
 
 -- a reason that goes away
 passes : (a b b' : Bool) (d e : Refusal) (o : Option Refusal) → (b ≡ false → b' ≡ false) → cond a (Some d) (cond b (Some e) o) ≡ None → cond a (Some d) (cond b' (Some e) o) ≡ None
@@ -39,45 +36,47 @@ pub apply_append : (columns : ℕ → Columns) (xs ys : List GlassCall) (r : Row
 apply_append columns [] ys r = refl
 apply_append columns (x ∷ xs) ys r = apply_append columns xs ys (apply columns x r)
 
-module _ {G : Type 0} (columns : ℕ → Columns) (row : G → Row) (spare : G → ℕ) (tied : G → Tied) where
-  pub drew_none : (g : G) → Drew columns row spare tied [] g g
-  drew_none g = record { row_after = refl; paid = omega arith; stays_tied = tied_still (tied g) }
-
-  pub drew_then : (xs ys : List GlassCall) (g h k : G) → Drew columns row spare tied xs g h → Drew columns row spare tied ys h k → Drew columns row spare tied (xs ++ ys) g k
+module _ {G : Type 0} (columns : ℕ → Columns) (row : G → Row) (spare : G → ℕ) where
+  pub drew_then : (xs ys : List GlassCall) (g h k : G) → Drew columns row spare xs g h → Drew columns row spare ys h k → Drew columns row spare (xs ++ ys) g k
   drew_then xs ys g h k p q = record {
     row_after = q.row_after ∙ ap (apply_all columns ys) p.row_after ∙ sym (apply_append columns xs ys (row g));
     paid = omega (arith, p.paid, q.paid, cost_append xs ys);
-    stays_tied = tied_then p.stays_tied q.stays_tied;
   }
 
   -- what comes after is allowed still
-  pub drew_on : (xs ys : List GlassCall) (g h : G) → Allowed columns (xs ++ ys) (row g) (spare g) → Drew columns row spare tied xs g h → Allowed columns ys (row h) (spare h)
+  pub drew_on : (xs ys : List GlassCall) (g h : G) → Allowed columns (xs ++ ys) (row g) (spare g) → Drew columns row spare xs g h → Allowed columns ys (row h) (spare h)
   drew_on xs ys g h a p =
       subst (λ (r : Row). Allowed columns ys r (spare h)) (sym p.row_after) (allowed_rest columns xs ys (row g) (spare g) (spare h) p.paid a)
 
-  pub leads_first : (all : List GlassCall) (g : G) → Allowed columns all (row g) (spare g) → Leads columns row spare tied all all g g
-  leads_first all g a = record { made = []; made_then_left = refl; drew = drew_none g; allowed = a }
+  pub leads_first : (all : List GlassCall) (g : G) → Allowed columns all (row g) (spare g) → Leads columns row spare all all g g
+  leads_first all g a = record { same_row = refl; same_cost = omega arith; allowed = a }
 
-  pub leads_on : (all xs ys : List GlassCall) (g h k : G) → Leads columns row spare tied all (xs ++ ys) g h → Drew columns row spare tied xs h k → Leads columns row spare tied all ys g k
+  pub leads_on : (all xs ys : List GlassCall) (g h k : G) → Leads columns row spare all (xs ++ ys) g h → Drew columns row spare xs h k → Leads columns row spare all ys g k
   leads_on all xs ys g h k l d = record {
-    made = l.made ++ xs;
-    made_then_left = l.made_then_left ∙ sym (append_assoc l.made xs ys);
-    drew = drew_then l.made xs g h k l.drew d;
+    same_row = ap (apply_all columns ys) d.row_after ∙ sym (apply_append columns xs ys (row h)) ∙ l.same_row;
+    same_cost = omega (arith, l.same_cost, d.paid, cost_append xs ys);
     allowed = drew_on xs ys h k l.allowed d;
   }
 
-  pub leads_last : (all xs : List GlassCall) (g h k : G) → Leads columns row spare tied all xs g h → Drew columns row spare tied xs h k → Drew columns row spare tied all g k
-  leads_last all xs g h k l d = subst (λ (ks : List GlassCall). Drew columns row spare tied ks g k) (sym l.made_then_left) (drew_then l.made xs g h k l.drew d)
+  pub leads_last : (all xs : List GlassCall) (g h k : G) → Leads columns row spare all xs g h → Drew columns row spare xs h k → Drew columns row spare all g k
+  leads_last all xs g h k l d = record {
+    row_after = d.row_after ∙ l.same_row;
+    paid = omega (arith, l.same_cost, d.paid);
+  }
 
-  pub leads_none : (all : List GlassCall) (g h : G) → Leads columns row spare tied all [] g h → Drew columns row spare tied all g h
-  leads_none all g h l = leads_last all [] g h h l (drew_none h)
+  pub leads_none : (all : List GlassCall) (g h : G) → Leads columns row spare all [] g h → Drew columns row spare all g h
+  leads_none all g h l = record { row_after = l.same_row; paid = omega (arith, l.same_cost) }
+
+  pub drew_none : (g : G) → Drew columns row spare [] g g
+  drew_none g = record { row_after = refl; paid = omega arith }
 
   -- one more call of a list
   pub drew_more : (ks : List GlassCall) (i : ℕ) (k : GlassCall) (g h j : G) → i < length ks → get_or ks i clear ≡ k
-      → Drew columns row spare tied (take i ks) g h → Drew columns row spare tied (k ∷ []) h j → Drew columns row spare tied (take (i + 1) ks) g j
-  drew_more ks i k g h j l e d one =
+      → Drew columns row spare (take i ks) g h → row j ≡ apply columns k (row h) → spare h ≤ spare j + cost k → Drew columns row spare (take (i + 1) ks) g j
+  drew_more ks i k g h j l e d r s =
+      let one : Drew columns row spare (k ∷ []) h j = record { row_after = r; paid = omega arith } in
       let more : take i ks ++ (k ∷ []) ≡ take (i + 1) ks = ap (λ (x : GlassCall). take i ks ++ (x ∷ [])) (sym e) ∙ sym (take_more ks i clear l) in
-      subst (λ (xs : List GlassCall). Drew columns row spare tied xs g j) more (drew_then (take i ks) (k ∷ []) g h j d one)
+      subst (λ (xs : List GlassCall). Drew columns row spare xs g j) more (drew_then (take i ks) (k ∷ []) g h j d one)
 
-  pub drew_all : (ks : List GlassCall) (i : ℕ) (g h : G) → length ks ≤ i → Drew columns row spare tied (take i ks) g h → Drew columns row spare tied ks g h
-  drew_all ks i g h l d = subst (λ (xs : List GlassCall). Drew columns row spare tied xs g h) (take_all i ks l) d
+  pub drew_all : (ks : List GlassCall) (i : ℕ) (g h : G) → length ks ≤ i → Drew columns row spare (take i ks) g h → Drew columns row spare ks g h
+  drew_all ks i g h l d = subst (λ (xs : List GlassCall). Drew columns row spare xs g h) (take_all i ks l) d

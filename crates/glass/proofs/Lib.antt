@@ -3,9 +3,10 @@ pub mod Text
 pub mod Blank
 pub mod Keeps
 pub mod Allowed
-pub mod Ties
 pub mod Drew
+pub mod DrewTied
 pub mod Performs
 pub mod Refusals
 pub mod Chars
 pub mod Showable
+pub mod Ties

@@ -1,8 +1,10 @@
 -- What a glass is tied to, over several calls.
-use Rattle.std.proofs.Common.{◌≡◌, ℕ, ◌+◌, ◌-◌, ◌≤◌, List, [], ◌++◌, drop, Some, None, Option, sym, refl, ap, ◌∙◌, append_assoc, arith}
-use Rattle.std.proofs.lemmas.List.{drop-drop, append-nil}
-use Rattle.glass.specs.Calls.{GlassCall}
+use Rattle.std.proofs.Common.{◌≡◌, ℕ, ◌+◌, ◌-◌, ◌<◌, ◌≤◌, List, [], ◌∷◌, ◌++◌, map, length, get_or, take, drop, Some, None, Option, sym, refl, ap, ◌∙◌, subst, append_assoc, arith}
+use Rattle.std.proofs.lemmas.List.{drop-drop, append-nil, take_more, take_all, length-map, get_or-map}
+use Rattle.glass.specs.declared.calls.Call.{Call}
+use Rattle.glass.specs.Calls.{GlassCall, clear}
 use Rattle.glass.specs.Ties.{Tied, StaysTied, untied, with_calls}
+use Rattle.glass.specs.Performed.{call_of}
 
 -- lists that are the same from a place on are the same from any later place on
 pub drop_on : {X : Type 0} (xs ys : List X) (m n : ℕ) → m ≤ n → drop m xs ≡ drop m ys → drop n xs ≡ drop n ys
@@ -34,3 +36,18 @@ tied_then {xs} {ys} {a} {b} {c} p q =
       rest_kept = q.rest_kept ∙ drop_on b.bytes a.bytes b.used c.used q.uses_more p.rest_kept;
       on_record = q.on_record ∙ ap (with_calls ys) p.on_record ∙ calls_then xs ys a.told;
     }
+
+-- one more call of a list
+pub tied_more : (calls : List Call) (i : ℕ) (k : Call) {a b c : Tied} → i < length calls → StaysTied (take i (map call_of calls)) a b → StaysTied (call_of (get_or calls i k) ∷ []) b c → StaysTied (take (i + 1) (map call_of calls)) a c
+tied_more calls i k {a} {b} {c} l p q =
+    let n : i < length (map call_of calls) = simp length-map l in
+    let e : take i (map call_of calls) ++ (call_of (get_or calls i k) ∷ []) ≡ take (i + 1) (map call_of calls) =
+    ap (λ (x : GlassCall). take i (map call_of calls) ++ (x ∷ [])) (sym (get_or-map call_of calls i k clear l)) ∙ sym (take_more (map call_of calls) i clear n) in
+    subst (λ (ks : List GlassCall). StaysTied ks a c) e (tied_then p q)
+
+-- a refused call leaves no trace
+pub tied_until : {ks : List GlassCall} {a b c : Tied} → StaysTied ks a b → StaysTied [] b c → StaysTied ks a c
+tied_until {ks} {a} {b} {c} p q = subst (λ (xs : List GlassCall). StaysTied xs a c) (append-nil ks) (tied_then p q)
+
+pub tied_all : (calls : List Call) (i : ℕ) {a b : Tied} → length calls ≤ i → StaysTied (take i (map call_of calls)) a b → StaysTied (map call_of calls) a b
+tied_all calls i {a} {b} l p = subst (λ (ks : List GlassCall). StaysTied ks a b) (take_all i (map call_of calls) (simp length-map l)) p

@@ -126,3 +126,14 @@ Obeys columns row spare k g r h =
     MatchResult r
     (λ _. (refused k (width_of (row g)) (spare g) ≡ None) × (row h ≡ apply columns k (row g)) × (spare g ≤ spare h + cost k))
     (λ e. (refused k (width_of (row g)) (spare g) ≡ Some e) × (h ≡ g))
+
+-- the calls were made, one after another, on the glass g, which is h then
+pub record Drew {G : Type 0} (columns : ℕ → Columns) (row : G → Row) (spare : G → ℕ) (ks : List GlassCall) (g h : G) : Type 0 where
+  pub row_after : row h ≡ apply_all columns ks (row g)
+  pub paid : spare g ≤ spare h + cost_of_all ks
+
+-- Of the calls `all`, which were allowed on the glass g, those of `left` are still to be made on h: they are allowed, and lead where all lead.
+pub record Leads {G : Type 0} (columns : ℕ → Columns) (row : G → Row) (spare : G → ℕ) (all left : List GlassCall) (g h : G) : Type 0 where
+  pub same_row : apply_all columns left (row h) ≡ apply_all columns all (row g)
+  pub same_cost : spare g + cost_of_all left ≤ spare h + cost_of_all all
+  pub allowed : Allowed columns left (row h) (spare h)

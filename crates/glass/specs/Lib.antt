@@ -1,5 +1,4 @@
 pub mod Row
 pub mod Calls
 pub mod Ties
-pub mod Drew
 pub mod Performed

@@ -2,7 +2,7 @@
 ghost use Rattle.std.specs.Prelude.{map};
 ghost use Rattle.glass.specs.Calls.{Obeys};
 ghost use Rattle.glass.specs.Ties.{StaysTied, accepted};
-ghost use Rattle.glass.specs.Performed.{call_of, Performed};
+ghost use Rattle.glass.specs.Performed.{call_of, Performed, made};
 
 use crate::{Glass, PenChange};
 use text::refusal::Refusal;
@@ -40,7 +40,8 @@ pub fn perform<G: Glass>(glass: &mut G, call: Call<'_>) -> Result<(), Refusal>
 
 /// Performs the calls in their order, up to the first that is refused.
 pub fn perform_all<G: Glass>(glass: &mut G, calls: &[Call<'_>]) -> Result<(), Stopped>
-    ensures performed { Performed G.Font.Font.columns G.Glass.row G.Glass.spare G.Glass.tied (map call_of calls.now) glass.old result glass.new }
+    ensures performed { Performed G.Font.Font.columns G.Glass.row G.Glass.spare (map call_of calls.now) glass.old result glass.new }
+    ensures keeps { StaysTied (made (map call_of calls.now) result) (G.Glass.tied glass.old) (G.Glass.tied glass.new) }
 {
     for i in 0..calls.len() {
         if let Err(refusal) = perform(glass, calls[i]) {

@@ -14,7 +14,7 @@ pub const LONGEST_HISTORY: usize = 65536;
 pub const MOST_DRAFTS: usize = 32;
 
 /// The drafts of a session: the first `count` of the entries, of which one is in hand.
-/// To edit it in place, lend the entries: `let entries = &mut history.entries; entries[i].insert_bytes(bytes)`.
+/// To edit it in place, lend the entries: `let entries = &mut history.entries; entries[i].insert_str(text)`.
 #[derive(Drop)]
 pub struct PromptHistory {
     pub entries: [PromptState; MOST_DRAFTS],

@@ -62,7 +62,7 @@ fn longest_history(rt: HostRuntime) -> Result<(), Fail> {
 fn the_draft_in_hand_is_edited(rt: HostRuntime) -> Result<(), Fail> {
     let mut history = PromptHistory::open(b"one\ntwo\n")?;
     assert!(rt; history.previous() == DisplayAction::Redraw);
-    assert_eq!(rt; history.insert_bytes(&[0x21])?, DisplayAction::Redraw);
+    assert_eq!(rt; history.insert_str(&[0x21])?, DisplayAction::Redraw);
     assert!(rt; reads(&history, b"two!"));
     assert!(rt; history.next() == DisplayAction::Redraw);
     assert!(rt; reads(&history, b""));

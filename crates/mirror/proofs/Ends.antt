@@ -1,16 +1,13 @@
 -- What the maker of a buffer knows when its recorder has ended.
-use Rattle.std.proofs.Common.{◌≡◌, ℕ, List, [], ◌∷◌, ◌++◌, drop, Some, Option, Result, sym, ap, ◌∙◌}
+use Rattle.std.proofs.Common.{◌≡◌, ℕ, List, [], ◌∷◌, ◌++◌, drop, Some, Option, sym, ap, ◌∙◌}
 use base.Fml.{GName}
 use Rattle.text.specs.declared.refusal.Refusal.{Refusal}
-use Rattle.font.specs.declared.Columns.{Columns}
-use Rattle.glass.specs.declared.calls.Stopped.{Stopped}
 use Rattle.glass.specs.Calls.{GlassCall}
-use Rattle.glass.specs.Performed.{Performed, made}
+use Rattle.glass.specs.Ties.{StaysTied}
 use Rattle.glass.proofs.Ties.{drop_on}
-use Rattle.glass.proofs.Performs.{performed_drew}
 use Rattle.recorder.specs.declared.recorder.Recorder.{Recorder}
 use Rattle.recorder.specs.Log.{calls_in, log_of, first_calls, opening}
-use Rattle.recorder.specs.Recorded.{log, shown_by, spare_of, tied_of}
+use Rattle.recorder.specs.Recorded.{log, tied_of}
 use Rattle.recorder.proofs.Logs.{opening_read}
 
 one_name : {a b : GName} → ◌≡◌ {A = List GName} (a ∷ []) (b ∷ []) → a ≡ b
@@ -25,14 +22,13 @@ pub record Ends {F : Type 0} (buffer : GName) (line : ℕ) (bytes : List ℕ) (k
   pub log_is : log h ≡ log_of line ks
   pub rest_kept : drop h.used h.bytes.now ≡ drop h.used bytes
 
-pub ends : {F : Type 0} (columns : ℕ → Columns) (s h : Recorder F) (buffer : GName) (line width : ℕ) (bytes : List ℕ) (o : Option Refusal) (ks : List GlassCall) (r : Result (Unit {0}) Stopped)
+pub ends : {F : Type 0} (s h : Recorder F) (buffer : GName) (line width : ℕ) (bytes : List ℕ) (o : Option Refusal) (ks : List GlassCall)
     → s.bytes.ghost_name ≡ buffer → s.line ≡ line → drop s.used s.bytes.now ≡ drop s.used bytes → log s ≡ opening o line width
-    → Performed columns (shown_by columns) spare_of tied_of ks s r h → Ends buffer line bytes (first_calls o width ++ made ks r) h
-ends columns s h buffer line width bytes o ks r n l k p d =
-    let t = (performed_drew columns (shown_by columns) spare_of tied_of ks s h r d).stays_tied in
-    let calls : calls_in (log h) ≡ first_calls o width ++ made ks r = one_record t.on_record ∙ ap (λ (xs : List GlassCall). xs ++ made ks r) (ap calls_in p ∙ opening_read o line width) in
+    → StaysTied ks (tied_of s) (tied_of h) → Ends buffer line bytes (first_calls o width ++ ks) h
+ends s h buffer line width bytes o ks n l r p t =
+    let calls : calls_in (log h) ≡ first_calls o width ++ ks = one_record t.on_record ∙ ap (λ (xs : List GlassCall). xs ++ ks) (ap calls_in p ∙ opening_read o line width) in
     record {
       same_buffer = one_name t.same_names ∙ n;
       log_is = sym h.reads.0 ∙ ap (λ m. log_of m (calls_in (log h))) (t.same_line ∙ l) ∙ ap (log_of line) calls;
-      rest_kept = t.rest_kept ∙ drop_on s.bytes.now bytes s.used h.used t.uses_more k;
+      rest_kept = t.rest_kept ∙ drop_on s.bytes.now bytes s.used h.used t.uses_more r;
     }

@@ -42,7 +42,8 @@ fn record<F: Font>(recorder: &mut Recorder<'_, F>, call: Call<'_>) -> Result<(),
 }
 
 fn record_all<F: Font>(recorder: &mut Recorder<'_, F>, calls: &[Call<'_>]) -> Result<(), Stopped>
-    ensures performed { Performed F.Font.columns (shown_by F.Font.columns) spare_of tied_of (map call_of calls.now) recorder.old result recorder.new }
+    ensures performed { Performed F.Font.columns (shown_by F.Font.columns) spare_of (map call_of calls.now) recorder.old result recorder.new }
+    ensures keeps { StaysTied (made (map call_of calls.now) result) (tied_of recorder.old) (tied_of recorder.new) }
 {
     for i in 0..calls.len() {
         if let Err(refusal) = record(recorder, calls[i]) {

@@ -58,8 +58,8 @@ impl Prompt {
     /// The whole drawing of the draft in hand.
     fn render<G: Glass>(&self, glass: &mut G, width: usize)
         requires inside { (self.now.label_len + beside_label ≤ width) × (width ≤ widest) }
-        requires allowed { Allowed Font-as-Font.columns (drawn Font-as-Font.columns width (session self.now)) (G.Glass.row glass.old) (G.Glass.spare glass.old) }
-        ensures drew { Drew Font-as-Font.columns G.Glass.row G.Glass.spare G.Glass.tied (drawn Font-as-Font.columns width (session self.now)) glass.old glass.new }
+        requires allowed { Allowed G.Font.Font.columns (drawn G.Font.Font.columns width (session self.now)) (G.Glass.row glass.old) (G.Glass.spare glass.old) }
+        ensures drew { Drew G.Font.Font.columns G.Glass.row G.Glass.spare G.Glass.tied (drawn G.Font.Font.columns width (session self.now)) glass.old glass.new }
     {
         let draft = self.history.state();
         let label_len = self.label_len;
@@ -85,7 +85,7 @@ impl Prompt {
 
     /// Draws the draft in hand.
     pub fn draw<G: Glass>(&self, glass: &mut G) -> Result<(), Refusal>
-        ensures one_call { OneCall Font-as-Font.columns G.Glass.row G.Glass.spare G.Glass.tied Request.draw self.now glass.old (reply_of result) self.now glass.new }
+        ensures one_call { OneCall G.Font.Font.columns G.Glass.row G.Glass.spare G.Glass.tied Request.draw self.now glass.old (reply_of result) self.now glass.new }
     {
         let width = G::width(glass);
         ready(self.label_len, width, G::spare_left(glass))?;
@@ -95,7 +95,7 @@ impl Prompt {
 
     /// Gives the glass a new width, scrolls the draft in hand for it, and draws.
     pub fn resize<G: Glass>(&mut self, glass: &mut G, width: usize) -> Result<(), Refusal>
-        ensures one_call { OneCall Font-as-Font.columns G.Glass.row G.Glass.spare G.Glass.tied (Request.resize width) self.old glass.old (reply_of result) self.new glass.new }
+        ensures one_call { OneCall G.Font.Font.columns G.Glass.row G.Glass.spare G.Glass.tied (Request.resize width) self.old glass.old (reply_of result) self.new glass.new }
     {
         ready(self.label_len, width, G::spare_left(glass))?;
         sure::reshape(glass, width);
@@ -159,7 +159,7 @@ impl Prompt {
         requires inside { (self.now.label_len + beside_label ≤ width) × (width ≤ widest) × (width ≡ width_of (G.Glass.row glass.old)) }
         requires paid { least_spare ≤ G.Glass.spare glass.old }
         requires letter { action ≡ DisplayAction.Letter → scalar code ≡ true }
-        ensures drew { Drew Font-as-Font.columns G.Glass.row G.Glass.spare G.Glass.tied (calls_by action code (drawn Font-as-Font.columns width (session self.now))) glass.old glass.new }
+        ensures drew { Drew G.Font.Font.columns G.Glass.row G.Glass.spare G.Glass.tied (calls_by action code (drawn G.Font.Font.columns width (session self.now))) glass.old glass.new }
     {
         match action {
             DisplayAction::Letter => sure::text(glass, &[code]),
@@ -176,7 +176,7 @@ impl Prompt {
         key: KeyCode,
         code: u32,
     ) -> Result<DisplayAction, Refusal>
-        ensures one_call { OneCall Font-as-Font.columns G.Glass.row G.Glass.spare G.Glass.tied (Request.key modifiers key code) self.old glass.old (answered_by result) self.new glass.new }
+        ensures one_call { OneCall G.Font.Font.columns G.Glass.row G.Glass.spare G.Glass.tied (Request.key modifiers key code) self.old glass.old (answered_by result) self.new glass.new }
     {
         let width = G::width(glass);
         ready(self.label_len, width, G::spare_left(glass))?;

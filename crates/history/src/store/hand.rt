@@ -3,7 +3,7 @@ ghost use Rattle.std.specs.Prelude.{◌≡◌, OnErr, OnOk, slice_index_or};
 ghost use Rattle.draft.specs.Draft.{draft_of};
 ghost use Rattle.history.specs.Session.{session_of, draft_in_hand, with_draft, going_back, answer_back, going_on, answer_on};
 ghost use Rattle.text.specs.Utf8.{characters};
-ghost use Rattle.draft.specs.Edits.{inserting, pasting_refused, unless_refused};
+ghost use Rattle.draft.specs.Edits.{inserting, insertion_refused, pasting_refused, unless_refused};
 ghost use Rattle.draft.specs.declared.action.DisplayAction.TheVariants.{Redraw};
 
 use super::PromptHistory;
@@ -42,6 +42,17 @@ impl PromptHistory {
         }
         self.active_index += 1;
         DisplayAction::Redraw
+    }
+
+    /// Inserts a text at the place of the draft in hand.
+    pub fn insert_str(&mut self, text: &[u32]) -> Result<DisplayAction, Refusal>
+        ensures answer_is { result ≡ unless_refused (insertion_refused text.now (draft_in_hand (session_of self.old))) Redraw }
+        ensures after { OnOk result (session_of self.new ≡ with_draft (inserting text.now (draft_in_hand (session_of self.old))) (session_of self.old)) }
+        ensures unchanged_if_refused { OnErr result (self.new ≡ self.old) }
+    {
+        let i = self.active_index;
+        let entries = &mut self.entries;
+        entries[i].insert_str(text)
     }
 
     /// Inserts the text that bytes spell at the place of the draft in hand.

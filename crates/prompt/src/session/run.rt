@@ -35,7 +35,7 @@ fn answered(res: Result<DisplayAction, Refusal>) -> Reply
 impl Prompt {
     /// Makes one call, whichever it is.
     pub fn perform<G: Glass>(&mut self, glass: &mut G, call: Call<'_>) -> Reply
-        ensures one_call { OneCall Font-as-Font.columns G.Glass.row G.Glass.spare G.Glass.tied (request call.entry) self.old glass.old result self.new glass.new }
+        ensures one_call { OneCall G.Font.Font.columns G.Glass.row G.Glass.spare G.Glass.tied (request call.entry) self.old glass.old result self.new glass.new }
     {
         match call {
             Call::Draw => done(self.draw(glass)),
@@ -47,7 +47,7 @@ impl Prompt {
 
     /// Makes the calls in their order, as many as there are places for replies.
     fn perform_all<G: Glass>(&mut self, glass: &mut G, calls: &[Call<'_>], replies: &mut [Reply])
-        ensures runs { Run Font-as-Font.columns G.Glass.row G.Glass.spare G.Glass.tied self.old glass.old (map request (take (replied_to calls.now replies.old) calls.now)) (take (replied_to calls.now replies.old) replies.new) self.new glass.new }
+        ensures runs { Run G.Font.Font.columns G.Glass.row G.Glass.spare G.Glass.tied self.old glass.old (map request (take (replied_to calls.now replies.old) calls.now)) (take (replied_to calls.now replies.old) replies.new) self.new glass.new }
         ensures rest_kept { drop (replied_to calls.now replies.old) replies.new ≡ drop (replied_to calls.now replies.old) replies.old }
     {
         let count = calls.len().min(replies.len());
@@ -67,7 +67,7 @@ pub fn run<G: Glass>(
 ) -> Result<Prompt, Refusal>
     ensures refused_exactly { refusal_in result ≡ opening_refused label.now history.now }
     ensures unchanged_if_refused { OnErr result ((glass.new ≡ glass.old) × (replies.new ≡ replies.old)) }
-    ensures row_shows_the_draft { IfOk result (λ q. RowShowsTheDraft Font-as-Font.columns G.Glass.row G.Glass.spare G.Glass.tied label.now history.now (map request (take (replied_to calls.now replies.old) calls.now)) (take (replied_to calls.now replies.old) replies.new) glass.old q glass.new) }
+    ensures row_shows_the_draft { IfOk result (λ q. RowShowsTheDraft G.Font.Font.columns G.Glass.row G.Glass.spare G.Glass.tied label.now history.now (map request (take (replied_to calls.now replies.old) calls.now)) (take (replied_to calls.now replies.old) replies.new) glass.old q glass.new) }
     ensures rest_kept { drop (replied_to calls.now replies.old) replies.new ≡ drop (replied_to calls.now replies.old) replies.old }
 {
     let mut prompt = Prompt::open(label, history)?;

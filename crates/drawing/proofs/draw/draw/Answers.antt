@@ -6,7 +6,7 @@ use Rattle.drawing.proofs.draw.draw.Goals as goal
 
 pub text-requires : goal.text-requires
 text-requires g c =
-    let cols = g.Font.Font.columns in
+    let cols = g.G.Font.Font.columns in
     let row = g.G.Glass.row in
     let spare = g.G.Glass.spare in
     let tied = g.G.Glass.tied in
@@ -19,7 +19,7 @@ text-requires g c =
 
 pub pen-requires-2 : goal.pen-requires-2
 pen-requires-2 g c =
-    let cols = g.Font.Font.columns in
+    let cols = g.G.Font.Font.columns in
     let row = g.G.Glass.row in
     let spare = g.G.Glass.spare in
     let tied = g.G.Glass.tied in
@@ -31,7 +31,7 @@ pen-requires-2 g c =
 
 pub text-requires-2 : goal.text-requires-2
 text-requires-2 g c =
-    let cols = g.Font.Font.columns in
+    let cols = g.G.Font.Font.columns in
     let row = g.G.Glass.row in
     let spare = g.G.Glass.spare in
     let tied = g.G.Glass.tied in
@@ -43,7 +43,7 @@ text-requires-2 g c =
 
 pub draw_text-requires : goal.draw_text-requires
 draw_text-requires g c =
-    let cols = g.Font.Font.columns in
+    let cols = g.G.Font.Font.columns in
     let row = g.G.Glass.row in
     let spare = g.G.Glass.spare in
     let tied = g.G.Glass.tied in
@@ -58,7 +58,7 @@ draw_text-requires g c =
 
 pub place-requires-2 : goal.place-requires-2
 place-requires-2 g c =
-    let cols = g.Font.Font.columns in
+    let cols = g.G.Font.Font.columns in
     let row = g.G.Glass.row in
     let spare = g.G.Glass.spare in
     let tied = g.G.Glass.tied in
@@ -70,7 +70,7 @@ place-requires-2 g c =
 
 pub returns : goal.returns
 returns g c =
-    let cols = g.Font.Font.columns in
+    let cols = g.G.Font.Font.columns in
     let row = g.G.Glass.row in
     let spare = g.G.Glass.spare in
     let tied = g.G.Glass.tied in

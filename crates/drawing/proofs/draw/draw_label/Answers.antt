@@ -8,7 +8,7 @@ use Rattle.drawing.proofs.draw.draw_label.Goals as goal
 
 pub pen-requires-2 : goal.pen-requires-2
 pen-requires-2 g c =
-    let cols = g.Font.Font.columns in
+    let cols = g.G.Font.Font.columns in
     let row = g.G.Glass.row in
     let spare = g.G.Glass.spare in
     let tied = g.G.Glass.tied in
@@ -21,7 +21,7 @@ pen-requires-2 g c =
 
 pub returns : goal.returns
 returns g c =
-    let cols = g.Font.Font.columns in
+    let cols = g.G.Font.Font.columns in
     let row = g.G.Glass.row in
     let spare = g.G.Glass.spare in
     let tied = g.G.Glass.tied in

@@ -10,16 +10,16 @@ use Rattle.drawing.proofs.Progress.{chosen_length, may_send, run_on, may_label, 
 use Rattle.drawing.proofs.draw.draw_text.Goals as goal
 
 pub loop-piece-init : goal.loop-piece-init
-loop-piece-init g c = (c.requires.inside.0, leads_first g.Font.Font.columns g.G.Glass.row g.G.Glass.spare g.G.Glass.tied _ c.args.glass.now c.requires.allowed)
+loop-piece-init g c = (c.requires.inside.0, leads_first g.G.Font.Font.columns g.G.Glass.row g.G.Glass.spare g.G.Glass.tied _ c.args.glass.now c.requires.allowed)
 
 pub fitting-count-requires : goal.fitting-count-requires
 fitting-count-requires g c =
-    let stands = subst (λ (p : Piece). StandsFirst g.Font.Font.columns c.loop-piece.rest.now p c.in-Some.after.now) c.in-Run.is c.in-Some.ensures.value in
+    let stands = subst (λ (p : Piece). StandsFirst g.G.Font.Font.columns c.loop-piece.rest.now p c.in-Some.after.now) c.in-Run.is c.in-Some.ensures.value in
     record { unlabelled = stands.2; inside = (c.loop-piece.invariant.0, c.requires.inside.1) }
 
 pub send-requires : goal.send-requires
 send-requires g c =
-    let cols = g.Font.Font.columns in
+    let cols = g.G.Font.Font.columns in
     let run = c.in-Run.run'.now in
     let fit = c.fitting-count in
     let stands = subst (λ (p : Piece). StandsFirst cols c.loop-piece.rest.now p c.in-Some.after.now) c.in-Run.is c.in-Some.ensures.value in
@@ -33,12 +33,12 @@ send-requires g c =
 pub loop-piece-smaller-in-Run : goal.loop-piece-smaller-in-Run
 loop-piece-smaller-in-Run g c =
     let run = c.in-Run.run'.now in
-    let stands = subst (λ (p : Piece). StandsFirst g.Font.Font.columns c.loop-piece.rest.now p c.in-Some.after.now) c.in-Run.is c.in-Some.ensures.value in
+    let stands = subst (λ (p : Piece). StandsFirst g.G.Font.Font.columns c.loop-piece.rest.now p c.in-Some.after.now) c.in-Run.is c.in-Some.ensures.value in
     omega (arith, ap length c.left_after-rest.ensures.value, chosen_length (ltb c.fitting-count.result.count (length run)) c.in-Some.after.now, ap length stands.0 ∙ length-append run c.in-Some.after.now, stands.1)
 
 pub loop-piece-preserved-in-Run : goal.loop-piece-preserved-in-Run
 loop-piece-preserved-in-Run g c =
-    let cols = g.Font.Font.columns in
+    let cols = g.G.Font.Font.columns in
     let run = c.in-Run.run'.now in
     let fit = c.fitting-count in
     let stands = subst (λ (p : Piece). StandsFirst cols c.loop-piece.rest.now p c.in-Some.after.now) c.in-Run.is c.in-Some.ensures.value in
@@ -53,7 +53,7 @@ loop-piece-preserved-in-Run g c =
 
 pub draw_label-column-requires : goal.draw_label-column-requires
 draw_label-column-requires g c =
-    let cols = g.Font.Font.columns in
+    let cols = g.G.Font.Font.columns in
     let stands = subst (λ (p : Piece). StandsFirst cols c.loop-piece.rest.now p c.in-Some.after.now) c.in-Label.is c.in-Some.ensures.value in
     record {
       inside = (c.loop-piece.invariant.0, c.requires.inside.1);
@@ -64,12 +64,12 @@ draw_label-column-requires g c =
 
 pub loop-piece-smaller : goal.loop-piece-smaller
 loop-piece-smaller g c =
-    let stands = subst (λ (p : Piece). StandsFirst g.Font.Font.columns c.loop-piece.rest.now p c.in-Some.after.now) c.in-Label.is c.in-Some.ensures.value in
+    let stands = subst (λ (p : Piece). StandsFirst g.G.Font.Font.columns c.loop-piece.rest.now p c.in-Some.after.now) c.in-Label.is c.in-Some.ensures.value in
     omega (arith, ap length c.left_after-rest-in-Label.ensures.value, chosen_length (leb c.args.width c.draw_label-column.result) c.in-Some.after.now, ap length stands.0)
 
 pub loop-piece-preserved : goal.loop-piece-preserved
 loop-piece-preserved g c =
-    let cols = g.Font.Font.columns in
+    let cols = g.G.Font.Font.columns in
     let stands = subst (λ (p : Piece). StandsFirst cols c.loop-piece.rest.now p c.in-Some.after.now) c.in-Label.is c.in-Some.ensures.value in (
       c.draw_label-column.ensures.bound,
       label_on cols g.G.Glass.row g.G.Glass.spare g.G.Glass.tied (pieces cols c.args.width c.args.start [] c.args.chars.now) c.args.width c.args.glass.now
@@ -80,7 +80,7 @@ loop-piece-preserved g c =
 
 pub clear-requires : goal.clear-requires
 clear-requires g c =
-    let cols = g.Font.Font.columns in
+    let cols = g.G.Font.Font.columns in
     record {
       allowed = may_clear cols g.G.Glass.row g.G.Glass.spare g.G.Glass.tied (pieces cols c.args.width c.args.start [] c.args.chars.now) c.args.width c.args.glass.now
           c.loop-piece.column c.loop-piece.rest.now c.loop-piece.glass c.in_default.ensures.value c.loop-piece.invariant.1 c.if-column-width.true;
@@ -88,7 +88,7 @@ clear-requires g c =
 
 pub returns-then-column-width : goal.returns-then-column-width
 returns-then-column-width g c =
-    let cols = g.Font.Font.columns in
+    let cols = g.G.Font.Font.columns in
     record {
       drew = cleared_at_last cols g.G.Glass.row g.G.Glass.spare g.G.Glass.tied (pieces cols c.args.width c.args.start [] c.args.chars.now) c.args.width c.args.glass.now
           c.loop-piece.column c.loop-piece.rest.now c.loop-piece.glass c.in_default.ensures.value c.loop-piece.invariant.1 c.if-column-width.true c.clear.new.glass c.clear.ensures.drew;
@@ -96,7 +96,7 @@ returns-then-column-width g c =
 
 pub returns-else-column-width : goal.returns-else-column-width
 returns-else-column-width g c =
-    let cols = g.Font.Font.columns in
+    let cols = g.G.Font.Font.columns in
     record {
       drew = full_at_last cols g.G.Glass.row g.G.Glass.spare g.G.Glass.tied (pieces cols c.args.width c.args.start [] c.args.chars.now) c.args.width c.args.glass.now
           c.loop-piece.column c.loop-piece.rest.now c.loop-piece.glass c.in_default.ensures.value c.loop-piece.invariant.1 c.if-column-width.false;

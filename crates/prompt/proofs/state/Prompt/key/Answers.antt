@@ -16,7 +16,7 @@ pub returns-in_err-ready : goal.returns-in_err-ready
 returns-in_err-ready g c =
     let back = err_from_is_err_and c.from-residual.result c.from-residual.ensures.1 in
     record {
-      one_call = refused_by_glass g.Font.Font.columns g.G.Glass.row g.G.Glass.spare g.G.Glass.tied c.args.modifiers c.args.key c.args.code c.args.self.now c.args.glass.now
+      one_call = refused_by_glass g.G.Font.Font.columns g.G.Glass.row g.G.Glass.spare g.G.Glass.tied c.args.modifiers c.args.key c.args.code c.args.self.now c.args.glass.now
           c.width-width.result c.spare_left.result c.width-width.ensures.value c.spare_left.ensures.value
           c.in_err-ready.field-0.0 c.from-residual.result c.in_err-ready.ensures.refused_exactly (back.1 ∙ ap Err back.2);
     }
@@ -26,14 +26,14 @@ returns-in_err-c g c =
     let back = err_from_is_err_and c.from-residual-in_err-c.result c.from-residual-in_err-c.ensures.1 in
     let why = c.in_err-c.ensures.value in
     record {
-      one_call = refused_by_code g.Font.Font.columns g.G.Glass.row g.G.Glass.spare g.G.Glass.tied c.args.modifiers c.args.key c.args.code c.args.self.now c.args.glass.now
+      one_call = refused_by_code g.G.Font.Font.columns g.G.Glass.row g.G.Glass.spare g.G.Glass.tied c.args.modifiers c.args.key c.args.code c.args.self.now c.args.glass.now
           c.width-width.result c.spare_left.result c.width-width.ensures.value c.spare_left.ensures.value
           c.from-residual-in_err-c.result c.in_ok-ready.ensures.refused_exactly why.1 (back.1 ∙ ap Err (back.2 ∙ why.0));
     }
 
 pub returns-in_err-action : goal.returns-in_err-action
 returns-in_err-action g c =
-    let cols = g.Font.Font.columns in
+    let cols = g.G.Font.Font.columns in
     let p = c.args.self.now in
     let code = c.args.code in
     let m = c.args.modifiers in
@@ -52,7 +52,7 @@ returns-in_err-action g c =
 
 pub show-requires : goal.show-requires
 show-requires g c =
-    let cols = g.Font.Font.columns in
+    let cols = g.G.Font.Font.columns in
     let p = c.args.self.now in
     let code = c.args.code in
     let m = c.args.modifiers in
@@ -72,7 +72,7 @@ show-requires g c =
 
 pub returns : goal.returns
 returns g c =
-    let cols = g.Font.Font.columns in
+    let cols = g.G.Font.Font.columns in
     let p = c.args.self.now in
     let code = c.args.code in
     let m = c.args.modifiers in

@@ -10,7 +10,7 @@ pub returns-in_err-ready : goal.returns-in_err-ready
 returns-in_err-ready g c =
     let back = err_from_is_err_and c.from-residual.result c.from-residual.ensures.1 in
     record {
-      one_call = refused_by_glass g.Font.Font.columns g.G.Glass.row g.G.Glass.spare g.G.Glass.tied c.args.bytes.now c.args.self.now c.args.glass.now
+      one_call = refused_by_glass g.G.Font.Font.columns g.G.Glass.row g.G.Glass.spare g.G.Glass.tied c.args.bytes.now c.args.self.now c.args.glass.now
           c.width-width.result c.spare_left.result c.width-width.ensures.value c.spare_left.ensures.value
           c.in_err-ready.field-0.0 c.from-residual.result c.in_err-ready.ensures.refused_exactly (back.1 ∙ ap Err back.2);
     }
@@ -19,7 +19,7 @@ pub returns-in_err-action : goal.returns-in_err-action
 returns-in_err-action g c =
     let back = err_from_is_err_and c.from-residual-in_err-action.result c.from-residual-in_err-action.ensures.1 in
     record {
-      one_call = refused_by_draft g.Font.Font.columns g.G.Glass.row g.G.Glass.spare g.G.Glass.tied c.args.bytes.now c.args.self.now c.args.glass.now
+      one_call = refused_by_draft g.G.Font.Font.columns g.G.Glass.row g.G.Glass.spare g.G.Glass.tied c.args.bytes.now c.args.self.now c.args.glass.now
           c.width-width.result c.spare_left.result c.width-width.ensures.value c.spare_left.ensures.value c.in_ok-ready.ensures.refused_exactly
           c.in_err-action.field-0.0 c.from-residual-in_err-action.result c.insert.new.self (sym c.insert.ensures.answer_is ∙ c.in_err-action.was) (back.1 ∙ ap Err back.2) c.in_err-action.ensures.unchanged_if_refused;
     }
@@ -36,13 +36,13 @@ render-requires g c =
     let wide : q.label_len + beside_label ≤ w = omega (arith, t.wide_enough, c.insert.ensures.label_kept) in
     record {
       inside = (wide, t.not_too_wide);
-      allowed = can_draw g.Font.Font.columns q (g.G.Glass.row h) w s c.width-width.ensures.value wide t.not_too_wide (omega (arith, t.can_pay));
+      allowed = can_draw g.G.Font.Font.columns q (g.G.Glass.row h) w s c.width-width.ensures.value wide t.not_too_wide (omega (arith, t.can_pay));
     }
 
 pub returns : goal.returns
 returns g c =
     record {
-      one_call = done g.Font.Font.columns g.G.Glass.row g.G.Glass.spare g.G.Glass.tied c.args.bytes.now c.args.self.now c.args.glass.now
+      one_call = done g.G.Font.Font.columns g.G.Glass.row g.G.Glass.spare g.G.Glass.tied c.args.bytes.now c.args.self.now c.args.glass.now
           c.width-width.result c.spare_left.result c.width-width.ensures.value c.spare_left.ensures.value c.in_ok-ready.ensures.refused_exactly
           c.in_ok-action.action c.insert.new.self c.render.new.glass (sym c.insert.ensures.answer_is ∙ c.in_ok-action.was) c.in_ok-action.ensures.after c.render.ensures.drew;
     }

@@ -9,7 +9,7 @@ loop-i-init g c = (none, refl)
 pub loop-i-preserved : goal.loop-i-preserved
 loop-i-preserved g c =
     let n : c.min-count.result ≡ min (length c.args.calls.now) (length c.args.replies.now) = c.min-count.ensures in (
-      again g.Font.Font.columns g.G.Glass.row g.G.Glass.spare g.G.Glass.tied c.args.calls.now c.loop-i.replies c.loop-i.i _ c.perform.result (omega arith) (omega arith) c.loop-i.invariant.0 c.perform.ensures.one_call,
+      again g.G.Font.Font.columns g.G.Glass.row g.G.Glass.spare g.G.Glass.tied c.args.calls.now c.loop-i.replies c.loop-i.i _ c.perform.result (omega arith) (omega arith) c.loop-i.invariant.0 c.perform.ensures.one_call,
       rest_kept c.loop-i.replies c.args.replies.now c.loop-i.i c.perform.result c.loop-i.invariant.1,
     )
 

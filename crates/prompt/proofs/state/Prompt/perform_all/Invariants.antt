@@ -5,5 +5,5 @@ use Rattle.prompt.proofs.state.Prompt.perform_all.Given as goal
 
 abbrev pub invariant-loop-i : goal.invariant-loop-i
 invariant-loop-i g l =
-    Run g.Font.Font.columns g.G.Glass.row g.G.Glass.spare g.G.Glass.tied l.initial.self l.initial.glass (map request (take l.i l.calls)) (take l.i l.replies) l.self l.glass
+    Run g.G.Font.Font.columns g.G.Glass.row g.G.Glass.spare g.G.Glass.tied l.initial.self l.initial.glass (map request (take l.i l.calls)) (take l.i l.replies) l.self l.glass
     × (drop l.i l.replies ≡ drop l.i l.initial.replies)

@@ -9,7 +9,7 @@ use Rattle.prompt.proofs.state.Prompt.render.Goals as goal
 
 pub draw-requires : goal.draw-requires
 draw-requires g c =
-    let cols = g.Font.Font.columns in
+    let cols = g.G.Font.Font.columns in
     let p = c.args.self.now in
     let h = c.args.glass.now in
     let e = prompt_framed cols p c.args.width (draft_of c.state-draft.result.now) c.shown.result.now c.cursor_position.result c.min-cursor.result c.state-draft.ensures.value c.shown.ensures.value c.cursor_position.ensures.value c.min-cursor.ensures in
@@ -21,7 +21,7 @@ draw-requires g c =
 
 pub returns : goal.returns
 returns g c =
-    let cols = g.Font.Font.columns in
+    let cols = g.G.Font.Font.columns in
     let p = c.args.self.now in
     let e = prompt_framed cols p c.args.width (draft_of c.state-draft.result.now) c.shown.result.now c.cursor_position.result c.min-cursor.result c.state-draft.ensures.value c.shown.ensures.value c.cursor_position.ensures.value c.min-cursor.ensures in
     record {

@@ -24,12 +24,12 @@ render-requires g c =
     let wide : q.label_len + beside_label ≤ w = omega (arith, t.wide_enough, c.scroll.ensures.label_kept) in
     record {
       inside = (wide, t.not_too_wide);
-      allowed = can_draw g.Font.Font.columns q (g.G.Glass.row h) w (g.G.Glass.spare h) v wide t.not_too_wide (omega (arith, t.can_pay, c.reshape.ensures.drew.paid));
+      allowed = can_draw g.G.Font.Font.columns q (g.G.Glass.row h) w (g.G.Glass.spare h) v wide t.not_too_wide (omega (arith, t.can_pay, c.reshape.ensures.drew.paid));
     }
 
 pub returns : goal.returns
 returns g c =
-    let cols = g.Font.Font.columns in
+    let cols = g.G.Font.Font.columns in
     let row = g.G.Glass.row in
     let spare = g.G.Glass.spare in
     let tied = g.G.Glass.tied in

@@ -8,5 +8,5 @@ render-requires g c =
     let h = c.args.glass.now in
     record {
       inside = (c.requires.inside.0, c.requires.inside.1);
-      allowed = can_draw g.Font.Font.columns p (g.G.Glass.row h) c.args.width (g.G.Glass.spare h) c.requires.inside.2 c.requires.inside.0 c.requires.inside.1 (omega (arith, c.requires.paid));
+      allowed = can_draw g.G.Font.Font.columns p (g.G.Glass.row h) c.args.width (g.G.Glass.spare h) c.requires.inside.2 c.requires.inside.0 c.requires.inside.1 (omega (arith, c.requires.paid));
     }
