@@ -1,10 +1,10 @@
 -- Bytes that spell a text come in as that text does.
-use Rattle.std.proofs.Common.{◌≡◌, ℕ, ◌+◌, ◌<◌, ◌≤◌, Bool, true, false, cond, leb, List, length, take, drop, Some, None, Ok, Err, Result, sym, refl, ap, ◌∙◌, arith}
+use Rattle.std.proofs.Common.{◌≡◌, ℕ, ◌+◌, ◌<◌, ◌≤◌, Bool, true, false, cond, leb, List, length, take, drop, Some, Ok, Err, Result, sym, refl, arith}
 use lib.Utf8.{scalars}
 use Rattle.std.proofs.lemmas.List.{take_all, take_at}
 use Rattle.std.proofs.lemmas.Bool.{lt-leb}
 use Rattle.text.specs.declared.refusal.Refusal.{Refusal}
-use Rattle.text.specs.declared.refusal.Refusal.TheVariants.{NotScalar, DraftFull}
+use Rattle.text.specs.declared.refusal.Refusal.TheVariants.{DraftFull}
 use Rattle.text.specs.Utf8.{Spells, characters, counted, well_formed, overwritten}
 use Rattle.text.proofs.Spellings.{spelled_is_encoding}
 use Rattle.draft.specs.Line.{capacity}

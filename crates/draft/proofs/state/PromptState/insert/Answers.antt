@@ -15,7 +15,7 @@ invariant_of-self c =
     let cs = c.args.chars.now in
     let text = text_inserted s.value c.open_gap.new.items c.copy_from_slice.new.self cs s.len s.position c.open_gap.result (omega arith) (omega arith) c.open_gap.ensures.opens c.open_gap.ensures.after c.copy_from_slice.ensures.after in
     let kept : scalars (take (s.len + length cs) (put_mid s.position (s.position + length cs - s.position) c.open_gap.new.items c.copy_from_slice.new.self)) ≡ true = rw text (scalars_inserted s.position cs (draft_of s).line.text (sym c.if-not-all_scalars.ensures.value) s.ok.4) in
-    ((omega arith, omega arith, omega arith, search (rules, places), kept), tt)
+    record { ok = (omega arith, omega arith, omega arith, search (rules, places), kept) }
 
 pub returns : goal.returns
 returns c =

@@ -4,7 +4,7 @@ use Rattle.draft.proofs.state.PromptState.insert_char.Goals as goal
 
 pub returns-in_err-insert : goal.returns-in_err-insert
 returns-in_err-insert g c =
-    let p = err_from_is_err_and c.from-residual.result c.from-residual.ensures.1 in
+    let p = err_from_is_err_and c.from_residual.result c.from_residual.ensures.1 in
     rw (p.1, p.2) (record {
       answer_is = refused_alike _ _ _ _ c.in_err-insert.ensures.answer_is;
       after = tt;

@@ -19,7 +19,7 @@ invariant_of-self c =
     let s = c.args.self.now in
     let text = text_without s.value c.close_gap.new.items s.len c.min-from.result c.max.result c.close_gap.result (omega arith) (omega arith) (omega arith) c.close_gap.ensures.closes c.close_gap.ensures.after in
     let kept : scalars (take (s.len - (c.max.result - c.min-from.result)) c.close_gap.new.items) ≡ true = rw text (scalars_without c.min-from.result c.max.result (draft_of s).line.text s.ok.4) in
-    ((omega arith, omega arith, omega arith, omega arith, kept), tt)
+    record { ok = (omega arith, omega arith, omega arith, omega arith, kept) }
 
 pub returns : goal.returns
 returns c =

@@ -13,7 +13,7 @@ invariant_of-self c =
     let s = c.args.self.now in
     let text = ap (take s.len) (c.swap.ensures.by_index.3 0) ∙ text_swapped s.value s.len c.min-place.result (omega arith) (omega arith) in
     let kept : scalars (take s.len c.swap.new.self) ≡ true = rw text (scalars_swapped c.min-place.result (draft_of s).line.text s.ok.4) in
-    ((omega arith, omega arith, omega arith, omega arith, kept), tt)
+    record { ok = (omega arith, omega arith, omega arith, omega arith, kept) }
 
 pub returns : goal.returns
 returns c =
