@@ -7,7 +7,7 @@ use Rattle.font.specs.Labels.{label as spelling}
 use Rattle.glass.specs.declared.PenChange.{PenChange}
 use Rattle.glass.specs.declared.PenChange.TheVariants.{Plain, Prompt, ReverseOn, ReverseOff}
 use Rattle.glass.specs.Row.{Row, blank_cell, blank_row, width_of}
-use Rattle.glass.specs.Calls.{GlassCall, place, pen, text, clear, apply, apply_all, with_text, with_character, changed_pen, narrow, wide}
+use Rattle.glass.specs.Calls.{GlassCall, place, pen, clear, apply, apply_all, with_text, with_character, changed_pen, narrow, wide}
 use Rattle.glass.proofs.Front.{Inside, Front, front, same_front, finished, front_text, decide, text_width, inside_text, front_of_text, full_is}
 use Rattle.glass.proofs.Text.{text_append, text_column, fits_column, AllOne, all_append, all_take}
 use Rattle.drawing.proofs.Ones.{label_one}

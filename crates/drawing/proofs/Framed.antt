@@ -6,8 +6,8 @@ use Rattle.glass.specs.declared.PenChange.TheVariants.{Plain, Prompt}
 use Rattle.glass.specs.Row.{Row}
 use Rattle.glass.specs.Calls.{GlassCall, place, pen, text, Allowed}
 use Rattle.glass.specs.Ties.{Tied}
-use Rattle.glass.specs.Drew.{Drew, Leads}
-use Rattle.glass.proofs.Drew.{leads_first, leads_on, leads_last, allowed_front}
+use Rattle.glass.proofs.Drew.{allowed_front}
+use Rattle.glass.proofs.DrewTied.{DrewTied, LeadsTied, leads_first, leads_last, leads_on}
 use Rattle.drawing.specs.Drawing.{pieces, text_start, framed}
 
 one_past : (xs ys : List ℕ) (y : ℕ) → take (length xs + 1) (xs ++ (y ∷ ys)) ≡ xs ++ (y ∷ [])
@@ -36,54 +36,54 @@ module _ {G : Type 0} (columns : ℕ → Columns) (row : G → Row) (spare : G �
   drawn = pieces columns width (text_start label) [] shown
 
   abbrev Left : List GlassCall → G → G → Type 0
-  Left ks g h = Leads columns row spare tied all ks g h
+  Left ks g h = LeadsTied columns row spare tied all ks g h
 
   pub may_place : (g : G) → Allowed columns all (row g) (spare g) → Allowed columns (place 0 ∷ []) (row g) (spare g)
   may_place g a = allowed_front columns (place 0 ∷ []) (pen Prompt ∷ title ∷ pen Plain ∷ text (0x20 ∷ []) ∷ (drawn ++ (place cursor ∷ []))) (row g) (spare g) a
 
-  module _ (g h : G) (a : Allowed columns all (row g) (spare g)) (d : Drew columns row spare tied (place 0 ∷ []) g h) where
+  module _ (g h : G) (a : Allowed columns all (row g) (spare g)) (d : DrewTied columns row spare tied (place 0 ∷ []) g h) where
     left_1 : Left (pen Prompt ∷ title ∷ pen Plain ∷ text (0x20 ∷ []) ∷ (drawn ++ (place cursor ∷ []))) g h
     left_1 = leads_on columns row spare tied all (place 0 ∷ []) _ g g h (leads_first columns row spare tied all g a) d
 
     pub may_pen : Allowed columns (pen Prompt ∷ []) (row h) (spare h)
     may_pen = allowed_front columns (pen Prompt ∷ []) (title ∷ pen Plain ∷ text (0x20 ∷ []) ∷ (drawn ++ (place cursor ∷ []))) (row h) (spare h) left_1.allowed
 
-    module _ (i : G) (d1 : Drew columns row spare tied (pen Prompt ∷ []) h i) where
+    module _ (i : G) (d1 : DrewTied columns row spare tied (pen Prompt ∷ []) h i) where
       left_2 : Left (title ∷ pen Plain ∷ text (0x20 ∷ []) ∷ (drawn ++ (place cursor ∷ []))) g i
       left_2 = leads_on columns row spare tied all (pen Prompt ∷ []) _ g h i left_1 d1
 
       pub may_title : Allowed columns (title ∷ []) (row i) (spare i)
       may_title = allowed_front columns (title ∷ []) (pen Plain ∷ text (0x20 ∷ []) ∷ (drawn ++ (place cursor ∷ []))) (row i) (spare i) left_2.allowed
 
-      module _ (j : G) (d2 : Drew columns row spare tied (title ∷ []) i j) where
+      module _ (j : G) (d2 : DrewTied columns row spare tied (title ∷ []) i j) where
         left_3 : Left (pen Plain ∷ text (0x20 ∷ []) ∷ (drawn ++ (place cursor ∷ []))) g j
         left_3 = leads_on columns row spare tied all (title ∷ []) _ g i j left_2 d2
 
         pub may_pen_again : Allowed columns (pen Plain ∷ []) (row j) (spare j)
         may_pen_again = allowed_front columns (pen Plain ∷ []) (text (0x20 ∷ []) ∷ (drawn ++ (place cursor ∷ []))) (row j) (spare j) left_3.allowed
 
-        module _ (k : G) (d3 : Drew columns row spare tied (pen Plain ∷ []) j k) where
+        module _ (k : G) (d3 : DrewTied columns row spare tied (pen Plain ∷ []) j k) where
           left_4 : Left (text (0x20 ∷ []) ∷ (drawn ++ (place cursor ∷ []))) g k
           left_4 = leads_on columns row spare tied all (pen Plain ∷ []) _ g j k left_3 d3
 
           pub may_space : Allowed columns (text (0x20 ∷ []) ∷ []) (row k) (spare k)
           may_space = allowed_front columns (text (0x20 ∷ []) ∷ []) (drawn ++ (place cursor ∷ [])) (row k) (spare k) left_4.allowed
 
-          module _ (l : G) (d4 : Drew columns row spare tied (text (0x20 ∷ []) ∷ []) k l) where
+          module _ (l : G) (d4 : DrewTied columns row spare tied (text (0x20 ∷ []) ∷ []) k l) where
             left_5 : Left (drawn ++ (place cursor ∷ [])) g l
             left_5 = leads_on columns row spare tied all (text (0x20 ∷ []) ∷ []) _ g k l left_4 d4
 
             pub may_draw_text : Allowed columns drawn (row l) (spare l)
             may_draw_text = allowed_front columns drawn (place cursor ∷ []) (row l) (spare l) left_5.allowed
 
-            module _ (m : G) (d5 : Drew columns row spare tied drawn l m) where
+            module _ (m : G) (d5 : DrewTied columns row spare tied drawn l m) where
               left_6 : Left (place cursor ∷ []) g m
               left_6 = leads_on columns row spare tied all drawn (place cursor ∷ []) g l m left_5 d5
 
               pub may_place_cursor : Allowed columns (place cursor ∷ []) (row m) (spare m)
               may_place_cursor = left_6.allowed
 
-              pub framed_drawn : (n : G) → Drew columns row spare tied (place cursor ∷ []) m n → Drew columns row spare tied all g n
+              pub framed_drawn : (n : G) → DrewTied columns row spare tied (place cursor ∷ []) m n → DrewTied columns row spare tied all g n
               framed_drawn n d6 = leads_last columns row spare tied all (place cursor ∷ []) g m n left_6 d6
 
 -- a row of spaces with the label written into it

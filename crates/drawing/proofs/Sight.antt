@@ -7,7 +7,7 @@ use Rattle.font.specs.declared.Columns.TheVariants.{One}
 use Rattle.font.specs.Labels.{text_columns, between}
 use Rattle.glass.specs.declared.PenChange.TheVariants.{Plain, Prompt}
 use Rattle.glass.specs.Row.{Row, blank_cell, blank_row, is_right_half, width_of}
-use Rattle.glass.specs.Calls.{place, pen, text, apply, apply_all, with_text, at_column}
+use Rattle.glass.specs.Calls.{place, pen, apply, apply_all, with_text, at_column}
 use Rattle.glass.proofs.Front.{Inside, text_width, inside_text}
 use Rattle.glass.proofs.Text.{text_column, AllOne, all_append}
 use Rattle.draft.specs.Line.{line}

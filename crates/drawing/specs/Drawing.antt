@@ -8,7 +8,6 @@ use Rattle.glass.specs.declared.PenChange.TheVariants.{Plain, Prompt, ReverseOn,
 use Rattle.glass.specs.Row.{Row, blank_row, width_of}
 use Rattle.glass.specs.Calls.{GlassCall, place, pen, text, clear, apply_all, cost_of_all, Allowed}
 use Rattle.drawing.specs.Ascii.{printable}
-use Rattle.draft.specs.Line.{Line}
 use Rattle.draft.specs.Draft.{Draft}
 use Rattle.draft.specs.Scroll.{shown_columns}
 

@@ -1,5 +1,5 @@
 -- The pieces that a draft is drawn in.
-use Rattle.std.specs.Prelude.{◌≡◌, ℕ, ◌<◌, Bool, true, false, not, List, [], ◌∷◌, ◌++◌, length}
+use Rattle.std.specs.Prelude.{◌≡◌, ℕ, ◌<◌, true, false, List, [], ◌∷◌, ◌++◌, length}
 use Rattle.font.specs.declared.Columns.{Columns}
 use Rattle.font.specs.Labels.{has_label}
 use Rattle.drawing.specs.declared.piece.Piece.{Piece}

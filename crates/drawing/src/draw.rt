@@ -2,8 +2,8 @@
 ghost use Rattle.std.specs.Prelude.{◌≡◌, ℕ, ◌+◌, ◌-◌, ◌<◌, ◌≤◌, List, [], ◌∷◌, ◌++◌, length, take, drop, if◌then◌else◌, slice_index};
 ghost use Rattle.font.specs.Labels.{label as spelling, char_columns};
 ghost use Rattle.glass.specs.Row.{widest};
-ghost use Rattle.glass.specs.Calls.{Allowed};
-ghost use Rattle.glass.specs.Drew.{Drew};
+ghost use Rattle.glass.specs.Calls.{Allowed, Drew};
+ghost use Rattle.glass.specs.Ties.{StaysTied};
 ghost use Rattle.drawing.specs.Drawing.{sent, reversed, pieces, framed, longest_label};
 ghost use Rattle.drawing.specs.Piece.{Unlabelled};
 
@@ -51,7 +51,8 @@ fn fitting<F: Font>(run: &[u32], column: usize, width: usize) -> Fit
 /// A run goes out as one text, unless it is empty.
 fn send<G: Glass>(glass: &mut G, run: &[u32])
     requires allowed { Allowed G.Font.Font.columns (sent run.now []) (G.Glass.row glass.old) (G.Glass.spare glass.old) }
-    ensures drew { Drew G.Font.Font.columns G.Glass.row G.Glass.spare G.Glass.tied (sent run.now []) glass.old glass.new }
+    ensures drew { Drew G.Font.Font.columns G.Glass.row G.Glass.spare (sent run.now []) glass.old glass.new }
+    ensures keeps { StaysTied (sent run.now []) (G.Glass.tied glass.old) (G.Glass.tied glass.new) }
 {
     match run {
         [] => {}
@@ -65,7 +66,8 @@ fn draw_label<G: Glass>(glass: &mut G, code: u32, column: usize, width: usize) -
     requires allowed { Allowed G.Font.Font.columns (reversed (take (width - column) (spelling code)) []) (G.Glass.row glass.old) (G.Glass.spare glass.old) }
     ensures value { result ≡ column + length (take (width - column) (spelling code)) }
     ensures bound { result ≤ width }
-    ensures drew { Drew G.Font.Font.columns G.Glass.row G.Glass.spare G.Glass.tied (reversed (take (width - column) (spelling code)) []) glass.old glass.new }
+    ensures drew { Drew G.Font.Font.columns G.Glass.row G.Glass.spare (reversed (take (width - column) (spelling code)) []) glass.old glass.new }
+    ensures keeps { StaysTied (reversed (take (width - column) (spelling code)) []) (G.Glass.tied glass.old) (G.Glass.tied glass.new) }
 {
     let label = Label::of(code);
     let shown = label.truncated(width - column);
@@ -87,7 +89,8 @@ fn left_after(stopped: bool, after: &[u32]) -> &[u32]
 pub fn draw_text<G: Glass>(glass: &mut G, chars: &[u32], start: usize, width: usize)
     requires inside { (start ≤ width) × (width ≤ widest) }
     requires allowed { Allowed G.Font.Font.columns (pieces G.Font.Font.columns width start [] chars.now) (G.Glass.row glass.old) (G.Glass.spare glass.old) }
-    ensures drew { Drew G.Font.Font.columns G.Glass.row G.Glass.spare G.Glass.tied (pieces G.Font.Font.columns width start [] chars.now) glass.old glass.new }
+    ensures drew { Drew G.Font.Font.columns G.Glass.row G.Glass.spare (pieces G.Font.Font.columns width start [] chars.now) glass.old glass.new }
+    ensures keeps { StaysTied (pieces G.Font.Font.columns width start [] chars.now) (G.Glass.tied glass.old) (G.Glass.tied glass.new) }
 {
     let mut rest = chars;
     let mut column = start;
@@ -143,7 +146,8 @@ fn titled(label: &[u32]) -> Title
 pub fn draw<G: Glass>(glass: &mut G, label: &[u32], shown: &[u32], cursor: usize, width: usize)
     requires inside { (length label.now ≤ longest_label) × (length label.now + 4 ≤ width) × (width ≤ widest) }
     requires allowed { Allowed G.Font.Font.columns (framed G.Font.Font.columns label.now shown.now cursor width) (G.Glass.row glass.old) (G.Glass.spare glass.old) }
-    ensures drew { Drew G.Font.Font.columns G.Glass.row G.Glass.spare G.Glass.tied (framed G.Font.Font.columns label.now shown.now cursor width) glass.old glass.new }
+    ensures drew { Drew G.Font.Font.columns G.Glass.row G.Glass.spare (framed G.Font.Font.columns label.now shown.now cursor width) glass.old glass.new }
+    ensures keeps { StaysTied (framed G.Font.Font.columns label.now shown.now cursor width) (G.Glass.tied glass.old) (G.Glass.tied glass.new) }
 {
     let title = titled(label);
     let title_len = title.len;

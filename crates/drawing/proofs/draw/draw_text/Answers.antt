@@ -1,12 +1,9 @@
-use Rattle.std.proofs.Common.{◌≡◌, ℕ, ◌-◌, ◌<◌, true, ltb, leb, List, [], ◌∷◌, ◌++◌, length, take, sym, refl, ap, ◌∙◌, subst, arith, length-append}
-use Rattle.font.specs.declared.Columns.{Columns}
-use Rattle.font.specs.Labels.{has_label}
-use Rattle.glass.specs.Drew.{Drew}
-use Rattle.glass.proofs.Drew.{leads_first}
+use Rattle.std.proofs.Common.{◌≡◌, ℕ, ◌-◌, ltb, leb, [], length, take, ap, ◌∙◌, subst, arith, length-append}
 use Rattle.drawing.specs.declared.piece.Piece.{Piece}
 use Rattle.drawing.specs.Drawing.{sent, pieces}
-use Rattle.drawing.specs.Piece.{StandsFirst, Unlabelled, StopsRun}
+use Rattle.drawing.specs.Piece.{StandsFirst}
 use Rattle.drawing.proofs.Progress.{chosen_length, may_send, run_on, may_label, label_on, may_clear, cleared_at_last, full_at_last}
+use Rattle.glass.proofs.DrewTied.{DrewTied, both, leads_first, untied_drew}
 use Rattle.drawing.proofs.draw.draw_text.Goals as goal
 
 pub loop-piece-init : goal.loop-piece-init
@@ -43,7 +40,7 @@ loop-piece-preserved-in-Run g c =
     let fit = c.fitting-count in
     let stands = subst (λ (p : Piece). StandsFirst cols c.loop-piece.rest.now p c.in-Some.after.now) c.in-Run.is c.in-Some.ensures.value in
     let whole : fit.result.count - 0 ≡ fit.result.count = omega arith in
-    let drew = subst (λ (n : ℕ). Drew cols g.G.Glass.row g.G.Glass.spare g.G.Glass.tied (sent (take n run) []) c.loop-piece.glass c.send.new.glass) whole c.send.ensures.drew in (
+    let drew = subst (λ (n : ℕ). DrewTied cols g.G.Glass.row g.G.Glass.spare g.G.Glass.tied (sent (take n run) []) c.loop-piece.glass c.send.new.glass) whole (both cols g.G.Glass.row g.G.Glass.spare g.G.Glass.tied c.send.ensures.drew c.send.ensures.keeps) in (
       fit.ensures.bounds.1,
       run_on cols g.G.Glass.row g.G.Glass.spare g.G.Glass.tied (pieces cols c.args.width c.args.start [] c.args.chars.now) c.args.width c.args.glass.now
           c.loop-piece.column c.loop-piece.rest.now run c.in-Some.after.now fit.result.count fit.result.column c.loop-piece.glass
@@ -75,7 +72,7 @@ loop-piece-preserved g c =
       label_on cols g.G.Glass.row g.G.Glass.spare g.G.Glass.tied (pieces cols c.args.width c.args.start [] c.args.chars.now) c.args.width c.args.glass.now
           c.loop-piece.column c.loop-piece.rest.now c.in-Some.after.now c.in-Label.code c.loop-piece.glass
           stands.0 stands.1 c.loop-piece.invariant.0 c.loop-piece.invariant.1
-          c.draw_label-column.new.glass c.draw_label-column.result c.draw_label-column.ensures.drew c.draw_label-column.ensures.value c.left_after-rest-in-Label.result.now c.left_after-rest-in-Label.ensures.value,
+          c.draw_label-column.new.glass c.draw_label-column.result (both cols g.G.Glass.row g.G.Glass.spare g.G.Glass.tied c.draw_label-column.ensures.drew c.draw_label-column.ensures.keeps) c.draw_label-column.ensures.value c.left_after-rest-in-Label.result.now c.left_after-rest-in-Label.ensures.value,
     )
 
 pub clear-requires : goal.clear-requires
@@ -89,15 +86,19 @@ clear-requires g c =
 pub returns-then-column-width : goal.returns-then-column-width
 returns-then-column-width g c =
     let cols = g.G.Font.Font.columns in
+    let all = cleared_at_last cols g.G.Glass.row g.G.Glass.spare g.G.Glass.tied (pieces cols c.args.width c.args.start [] c.args.chars.now) c.args.width c.args.glass.now
+    c.loop-piece.column c.loop-piece.rest.now c.loop-piece.glass c.in_default.ensures.value c.loop-piece.invariant.1 c.if-column-width.true c.clear.new.glass (both cols g.G.Glass.row g.G.Glass.spare g.G.Glass.tied c.clear.ensures.drew c.clear.ensures.keeps) in
     record {
-      drew = cleared_at_last cols g.G.Glass.row g.G.Glass.spare g.G.Glass.tied (pieces cols c.args.width c.args.start [] c.args.chars.now) c.args.width c.args.glass.now
-          c.loop-piece.column c.loop-piece.rest.now c.loop-piece.glass c.in_default.ensures.value c.loop-piece.invariant.1 c.if-column-width.true c.clear.new.glass c.clear.ensures.drew;
+      drew = untied_drew cols g.G.Glass.row g.G.Glass.spare g.G.Glass.tied all;
+      keeps = all.stays_tied;
     }
 
 pub returns-else-column-width : goal.returns-else-column-width
 returns-else-column-width g c =
     let cols = g.G.Font.Font.columns in
+    let all = full_at_last cols g.G.Glass.row g.G.Glass.spare g.G.Glass.tied (pieces cols c.args.width c.args.start [] c.args.chars.now) c.args.width c.args.glass.now
+    c.loop-piece.column c.loop-piece.rest.now c.loop-piece.glass c.in_default.ensures.value c.loop-piece.invariant.1 c.if-column-width.false in
     record {
-      drew = full_at_last cols g.G.Glass.row g.G.Glass.spare g.G.Glass.tied (pieces cols c.args.width c.args.start [] c.args.chars.now) c.args.width c.args.glass.now
-          c.loop-piece.column c.loop-piece.rest.now c.loop-piece.glass c.in_default.ensures.value c.loop-piece.invariant.1 c.if-column-width.false;
+      drew = untied_drew cols g.G.Glass.row g.G.Glass.spare g.G.Glass.tied all;
+      keeps = all.stays_tied;
     }

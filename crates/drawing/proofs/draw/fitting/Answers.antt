@@ -1,4 +1,4 @@
-use Rattle.std.proofs.Common.{◌≡◌, ◌+◌, ◌≤◌, get_or, take, drop, arith}
+use Rattle.std.proofs.Common.{◌+◌, ◌≤◌, get_or, arith}
 use Rattle.font.specs.Labels.{char_columns}
 use Rattle.drawing.proofs.Steps.{joins_more}
 use Rattle.drawing.proofs.draw.fitting.Goals as goal

@@ -1,4 +1,4 @@
-use Rattle.std.proofs.Common.{◌≡◌, ◌≤◌, length, sym, arith, ltb-false}
+use Rattle.std.proofs.Common.{◌≤◌, length, sym, arith, ltb-false}
 use Rattle.drawing.proofs.RunsOut.{label_first, run_first}
 use Rattle.drawing.proofs.piece.next_piece.Goals as goal
 
