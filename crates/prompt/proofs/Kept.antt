@@ -9,7 +9,6 @@ use Rattle.font.specs.Labels.{has_label}
 use Rattle.text.specs.declared.refusal.Refusal.{Refusal}
 use Rattle.glass.specs.Row.{Row, blank_row, blank_cell, width_of}
 use Rattle.glass.specs.Calls.{apply_all, with_character}
-use Rattle.glass.specs.Ties.{Tied}
 use Rattle.draft.specs.declared.state.PromptState.{PromptState}
 use Rattle.draft.specs.Line.{Line, line, empty_line, with_inserted}
 use Rattle.draft.specs.Draft.{Draft, draft, draft_of}
@@ -40,8 +39,6 @@ use Rattle.prompt.specs.Session.{Session, session, empty_draft, draft_in_hand, l
 use Rattle.prompt.specs.Promise.{ShowsThePrompt, RowShowsTheDraft}
 use Rattle.drawing.specs.Sight.{CursorInSight}
 use Rattle.drawing.proofs.Forgets.{drawn_same}
-use Rattle.history.specs.Session.{remembered_texts}
-use Rattle.prompt.specs.Opening.{opened_with}
 use Rattle.prompt.specs.Runs.{Run}
 use Rattle.prompt.proofs.Runs.{seen, decided, row_shows_the_draft}
 use Rattle.prompt.proofs.Widths.{width_is}
@@ -235,20 +232,20 @@ module _ (columns : ℕ → Columns) (ascii : (c : ℕ) → 0x20 ≤ c → c ≤
   row_drawn (paste bytes) s r b a p p' big big' h well before e = redrawn columns ascii (width_of r) (after columns (width_of r) (paste bytes) s) r p' big' refl
   row_drawn (resize w) s r b a p p' big big' h well before e = refl
 
-module _ {G : Type 0} (columns : ℕ → Columns) (ascii : (c : ℕ) → 0x20 ≤ c → c ≤ 0x7E → columns c ≡ One) (row : G → Row) (spare : G → ℕ) (tied : G → Tied) where
+module _ {G : Type 0} (columns : ℕ → Columns) (ascii : (c : ℕ) → 0x20 ≤ c → c ≤ 0x7E → columns c ≡ One) (row : G → Row) (spare : G → ℕ) where
   -- The draft in hand is well scrolled wherever the width has room for it; and once a draw was accepted, the width
   -- has, and the row is the prompt's drawing.
   pub record Good (b : Bool) (p : Prompt) (g : G) : Type 0 where
     pub well : 5 ≤ room (width_of (row g)) (session p) → Well columns (session p) (width_of (row g))
     pub is_drawn : b ≡ true → (5 ≤ room (width_of (row g)) (session p)) × ShowsThePrompt columns (session p) (row g)
 
-  kept_accepted : (b : Bool) (x : Request) (p q : Prompt) (g h : G) (r : Reply) → Good b p g → OneCall columns row spare tied x p g r q h → refused_now row spare x p g ≡ None → Good (seen b x r) q h
+  kept_accepted : (b : Bool) (x : Request) (p q : Prompt) (g h : G) (r : Reply) → Good b p g → OneCall columns row spare x p g r q h → refused_now columns row spare x p g ≡ None → Good (seen b x r) q h
   kept_accepted b x p q g h r good call e =
       let s = session p in
-      let w = drawn_at row x g in
+      let w = drawn_at columns row spare x g in
       let t = after columns w x s in
       let a = call.accepted e in
-      let wide : width_of (row h) ≡ w = ap width_of a.drew.row_after ∙ width_is columns w x s (row g) in
+      let wide : width_of (row h) ≡ w = ap width_of a.row_after ∙ width_is columns w x s (row g) in
       let label : t.label ≡ s.label = label_kept columns w x s in
       let printed : printable s.label ≡ true = p.titled.2 in
       let n = in_range x p.label_len (width_of (row g)) (spare g) _ e in
@@ -260,7 +257,7 @@ module _ {G : Type 0} (columns : ℕ → Columns) (ascii : (c : ℕ) → 0x20 �
         well = λ _. subst (λ (z : Session). Well columns z (width_of (row h))) (sym a.prompt_after) (subst (λ (v : ℕ). Well columns t v) (sym wide) well);
         is_drawn = λ f. (
           subst (λ (z : Session). 5 ≤ room (width_of (row h)) z) (sym a.prompt_after) (subst (λ (v : ℕ). 5 ≤ room v t) (sym wide) big'),
-          a.drew.row_after
+          a.row_after
               ∙ row_drawn columns ascii x s (row g) b r printed (ap printable label ∙ printed) big big' (prompt_held p) good.well (λ y. (good.is_drawn y).1) f
               ∙ ap (λ (v : ℕ). apply_all columns (drawn columns v t) (blank_row v)) (sym wide)
               ∙ ap (λ (z : Session). apply_all columns (drawn columns (width_of (row h)) z) (blank_row (width_of (row h)))) (sym a.prompt_after),
@@ -274,12 +271,12 @@ module _ {G : Type 0} (columns : ℕ → Columns) (ascii : (c : ℕ) → 0x20 �
       (subst (λ (z : Bool). Good z p g) (sym (ap (seen b x) t ∙ seen_refused b x e)) good))
 
   -- one call keeps it
-  pub kept : (b : Bool) (x : Request) (p q : Prompt) (g h : G) (r : Reply) → Good b p g → OneCall columns row spare tied x p g r q h → Good (seen b x r) q h
+  pub kept : (b : Bool) (x : Request) (p q : Prompt) (g h : G) (r : Reply) → Good b p g → OneCall columns row spare x p g r q h → Good (seen b x r) q h
   kept b x p q g h r good call =
       ⊎_elim
-      (λ (e : refused_now row spare x p g ≡ None). kept_accepted b x p q g h r good call e)
+      (λ (e : refused_now columns row spare x p g ≡ None). kept_accepted b x p q g h r good call e)
       (λ e. let a = call.refused e.0 e.1 in kept_refused b x p q g h r good e.0 a.told_why a.same_prompt a.same_glass)
-      (decided (refused_now row spare x p g))
+      (decided (refused_now columns row spare x p g))
 
   drawn_now : (p : Prompt) (g : G) → Good true p g → ShowsThePrompt columns (session p) (row g)
   drawn_now p g good = (good.is_drawn refl).1
@@ -289,8 +286,8 @@ module _ {G : Type 0} (columns : ℕ → Columns) (ascii : (c : ℕ) → 0x20 �
       let d = good.is_drawn refl in
       sight columns ascii (width_of (row g)) (session p).label p.titled.2 (draft_in_hand (session p)) (place_inside p) (omega (arith, d.0)) (good.well d.0) (row g) refl d.1
 
-  width_now : (x : Request) (p q : Prompt) (g h : G) (r : Reply) → OneCall columns row spare tied x p g r q h → refused_now row spare x p g ≡ None → width_of (row h) ≡ drawn_at row x g
-  width_now x p q g h r call e = ap width_of (call.accepted e).drew.row_after ∙ width_is columns (drawn_at row x g) x (session p) (row g)
+  width_now : (x : Request) (p q : Prompt) (g h : G) (r : Reply) → OneCall columns row spare x p g r q h → refused_now columns row spare x p g ≡ None → width_of (row h) ≡ drawn_at columns row spare x g
+  width_now x p q g h r call e = ap width_of (call.accepted e).row_after ∙ width_is columns (drawn_at columns row spare x g) x (session p) (row g)
 
   -- at the start the draft in hand is empty
   empty_in_hand : (label : List ℕ) (texts : List (List ℕ)) → draft_in_hand (newly_opened label texts) ≡ empty_draft
@@ -313,8 +310,7 @@ module _ {G : Type 0} (columns : ℕ → Columns) (ascii : (c : ℕ) → 0x20 �
   ledger_at_first : (p : Prompt) (label : List ℕ) (texts : List (List ℕ)) → session p ≡ newly_opened label texts → ledger (session p) ≡ opened texts
   ledger_at_first p label texts e = ap ledger e ∙ ap (λ (ls : List Line). record { lines = ls; hand = length texts }) (opened_lines texts)
 
-  pub promise : {p q : Prompt} {g h : G} {xs : List Request} {rs : List Reply} (label history : List ℕ) → session p ≡ opened_with label history → Run columns row spare tied p g xs rs q h
-      → RowShowsTheDraft columns row spare tied label history xs rs g q h
-  promise {p = p} {g = g} label history e run =
-      let texts = remembered_texts history in
-      row_shows_the_draft columns row spare tied Good kept drawn_now sight_now width_now label history run (good_at_first p g label texts e) e (ledger_at_first p label texts e)
+  pub promise : {p q : Prompt} {g h : G} {xs : List Request} {rs : List Reply} → Run columns row spare p g xs rs q h → (label : List ℕ) (texts : List (List ℕ)) → session p ≡ newly_opened label texts
+      → RowShowsTheDraft columns row spare texts xs rs p g q h
+  promise {p = p} {g = g} run label texts e =
+      row_shows_the_draft columns row spare Good kept drawn_now sight_now width_now texts run (good_at_first p g label texts e) (ledger_at_first p label texts e)

@@ -1,4 +1,5 @@
 pub mod Agrees
+pub mod CallTied
 pub mod Kept
 pub mod Pasted
 pub mod Pressed

@@ -7,7 +7,7 @@ use Rattle.font.specs.declared.Columns.{Columns}
 use Rattle.glass.specs.Row.{Row, width_of}
 use Rattle.glass.specs.Ties.{Tied}
 use Rattle.glass.specs.Calls.{GlassCall}
-use Rattle.glass.specs.Drew.{Drew}
+use Rattle.glass.proofs.DrewTied.{DrewTied}
 use Rattle.draft.specs.declared.action.DisplayAction.{DisplayAction}
 use Rattle.draft.specs.declared.action.DisplayAction.TheVariants.{Redraw}
 use Rattle.draft.specs.Line.{capacity}
@@ -17,7 +17,8 @@ use Rattle.prompt.specs.declared.session.Reply.TheVariants.{Answered}
 use Rattle.prompt.specs.declared.state.Prompt.{Prompt}
 use Rattle.prompt.specs.Requests.{draw, paste, answered_by}
 use Rattle.prompt.specs.Refused.{refusal, beside_label, least_spare}
-use Rattle.prompt.specs.Session.{Session, session, draft_in_hand, scrolled, with_draft, drawn, OneCall}
+use Rattle.prompt.specs.Session.{Session, session, draft_in_hand, scrolled, with_draft, drawn}
+use Rattle.prompt.proofs.CallTied.{OneCallTied}
 use Rattle.prompt.proofs.Ready.{refuses, accepts}
 use Rattle.prompt.proofs.Table.{early, late, insertion_by_length}
 use Rattle.prompt.proofs.Told.{refused_with, not_refused, at_glass, handed_on}
@@ -43,7 +44,7 @@ module _ {G : Type 0} (columns : ℕ → Columns) (row : G → Row) (spare : G �
   abbrev no_room : Bool
   no_room = ltb (width_of (row g)) (p.label_len + beside_label) || ltb 512 (width_of (row g))
 
-  pub refused_by_glass : (e : Refusal) (r : Result DisplayAction Refusal) → refusal draw p.label_len w s 0 ≡ Some e → r ≡ Err e → OneCall columns row spare tied (paste bytes) p g (answered_by r) p g
+  pub refused_by_glass : (e : Refusal) (r : Result DisplayAction Refusal) → refusal draw p.label_len w s 0 ≡ Some e → r ≡ Err e → OneCallTied columns row spare tied (paste bytes) p g (answered_by r) p g
   refused_by_glass e r h back =
       handed_on columns row spare tied (paste bytes) p g r e p back refl
       (refuses columns row spare tied (paste bytes) p g e (early no_room (ltb (spare g) least_spare) OutsideGlass LowSpare e (last_rows bytes size) (at_glass p.label_len w s (width_of (row g)) (spare g) wide pays (Some e) h)))
@@ -55,7 +56,7 @@ module _ {G : Type 0} (columns : ℕ → Columns) (row : G → Row) (spare : G �
         late no_room (ltb (spare g) least_spare) OutsideGlass LowSpare (last_rows bytes size) (at_glass p.label_len w s (width_of (row g)) (spare g) wide pays None h)
         ∙ rows_of_draft (well_formed bytes) bytes (draft_in_hand (session p))
 
-    pub refused_by_draft : (e : Refusal) (r : Result DisplayAction Refusal) (q : Prompt) → unless_refused (pasting_refused bytes (draft_in_hand (session p))) Redraw ≡ Err e → r ≡ Err e → q ≡ p → OneCall columns row spare tied (paste bytes) p g (answered_by r) q g
+    pub refused_by_draft : (e : Refusal) (r : Result DisplayAction Refusal) (q : Prompt) → unless_refused (pasting_refused bytes (draft_in_hand (session p))) Redraw ≡ Err e → r ≡ Err e → q ≡ p → OneCallTied columns row spare tied (paste bytes) p g (answered_by r) q g
     refused_by_draft e r q d back same =
         handed_on columns row spare tied (paste bytes) p g r e q back same
         (refuses columns row spare tied (paste bytes) p g e (up_to_draft ∙ refused_with (pasting_refused bytes (draft_in_hand (session p))) Redraw e d))
@@ -63,8 +64,8 @@ module _ {G : Type 0} (columns : ℕ → Columns) (row : G → Row) (spare : G �
     pub done : (a : DisplayAction) (q : Prompt) (f : G)
         → unless_refused (pasting_refused bytes (draft_in_hand (session p))) Redraw ≡ Ok a
         → session q ≡ pasted columns w bytes (session p)
-        → Drew columns row spare tied (drawn columns w (session q)) g f
-        → OneCall columns row spare tied (paste bytes) p g (Answered a) q f
+        → DrewTied columns row spare tied (drawn columns w (session q)) g f
+        → OneCallTied columns row spare tied (paste bytes) p g (Answered a) q f
     done a q f answer after shown =
         let split = not_refused (pasting_refused bytes (draft_in_hand (session p))) Redraw a answer in
         let v = width_of (row g) in
@@ -72,5 +73,5 @@ module _ {G : Type 0} (columns : ℕ → Columns) (row : G → Row) (spare : G �
         accepts columns row spare tied (paste bytes) p q g f (Answered a) (up_to_draft ∙ split.0) (record {
           answered = ap Answered split.1;
           prompt_after = then;
-          drew = subst (λ (ks : List GlassCall). Drew columns row spare tied ks g f) (ap (λ (x : ℕ). drawn columns x (session q)) wide ∙ ap (λ (x : Session). drawn columns v x) then) shown;
+          drew = subst (λ (ks : List GlassCall). DrewTied columns row spare tied ks g f) (ap (λ (x : ℕ). drawn columns x (session q)) wide ∙ ap (λ (x : Session). drawn columns v x) then) shown;
         })

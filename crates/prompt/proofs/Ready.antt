@@ -24,7 +24,8 @@ use Rattle.prompt.specs.declared.session.Reply.TheVariants.{Refused}
 use Rattle.prompt.specs.Requests.{Request, draw}
 use Rattle.prompt.specs.Refused.{refusal}
 use Rattle.history.specs.Session as history
-use Rattle.prompt.specs.Session.{Session, room, session, empty_draft, draft_in_hand, drawn, refused_now, Accepting, OneCall}
+use Rattle.prompt.specs.Session.{Session, room, session, empty_draft, draft_in_hand, drawn, refused_now}
+use Rattle.prompt.proofs.CallTied.{AcceptingTied, OneCallTied}
 use Rattle.drawing.proofs.Allowed.{drawing_is_allowed}
 use Rattle.drawing.proofs.Tests.{neither, absent}
 
@@ -67,13 +68,13 @@ may_draw columns p r w s m q e =
 
 -- one call, refused or accepted
 module _ {G : Type 0} (columns : ℕ → Columns) (row : G → Row) (spare : G → ℕ) (tied : G → Tied) where
-  pub refuses : (x : Request) (p : Prompt) (g : G) (e : Refusal) → refused_now row spare x p g ≡ Some e → OneCall columns row spare tied x p g (Refused e) p g
+  pub refuses : (x : Request) (p : Prompt) (g : G) (e : Refusal) → refused_now columns row spare x p g ≡ Some e → OneCallTied columns row spare tied x p g (Refused e) p g
   refuses x p g e h = record {
     refused = λ d k. let same : e ≡ d = cc in record { told_why = ap Refused same; same_prompt = refl; same_glass = refl };
     accepted = λ k. absurd (let z : ◌≡◌ {A = ℕ} 0 1 = cc in omega arith);
   }
 
-  pub accepts : (x : Request) (p q : Prompt) (g h : G) (r : Reply) → refused_now row spare x p g ≡ None → Accepting columns row spare tied x p g r q h → OneCall columns row spare tied x p g r q h
+  pub accepts : (x : Request) (p q : Prompt) (g h : G) (r : Reply) → refused_now columns row spare x p g ≡ None → AcceptingTied columns row spare tied x p g r q h → OneCallTied columns row spare tied x p g r q h
   accepts x p q g h r e a = record {
     refused = λ d k. absurd (let z : ◌≡◌ {A = ℕ} 0 1 = cc in omega arith);
     accepted = λ k. a;

@@ -4,19 +4,14 @@ use Rattle.std.proofs.lemmas.List.{take_more, take_more_set, map-append}
 use Rattle.font.specs.declared.Columns.{Columns}
 use Rattle.text.specs.declared.refusal.Refusal.{Refusal}
 use Rattle.glass.specs.Row.{Row, width_of}
-use Rattle.glass.specs.Calls.{GlassCall}
-use Rattle.glass.specs.Ties.{Tied, StaysTied}
 use Rattle.prompt.specs.declared.state.Prompt.{Prompt}
 use Rattle.prompt.specs.declared.session.Reply.{Reply}
 use Rattle.prompt.specs.declared.session.Reply.TheVariants.{Done, Answered, Refused}
 use Rattle.prompt.specs.declared.session.Call.{Call}
 use Rattle.prompt.specs.Requests.{Request, draw, key, paste, resize, request, was_refused}
 use Rattle.prompt.specs.Ledger.{Ledger, opened, entered, step, fed}
-use Rattle.history.specs.Session.{remembered_texts}
-use Rattle.glass.proofs.Ties.{tied_still, tied_then}
-use Rattle.prompt.specs.Opening.{opened_with}
-use Rattle.prompt.specs.Runs.{Run, none, next}
 use Rattle.prompt.specs.Session.{Session, session, draft_in_hand, ledger, after, answer, refused_now, drawn_at, OneCall}
+use Rattle.prompt.specs.Runs.{Run, none, next}
 use Rattle.prompt.specs.Promise.{ShowsThePrompt, AcceptedDraw, refusals, RowShowsTheDraft}
 use Rattle.drawing.specs.Sight.{CursorInSight}
 use Rattle.prompt.proofs.Agrees.{ledger_agrees}
@@ -56,64 +51,64 @@ answer_accepts columns w (key m k c) s = refl
 answer_accepts columns w (paste bytes) s = refl
 answer_accepts columns w (resize v) s = refl
 
-module _ {G : Type 0} (columns : ℕ → Columns) (row : G → Row) (spare : G → ℕ) (tied : G → Tied) where
-  snoc : {p q z : Prompt} {g h k : G} {xs : List Request} {rs : List Reply} (x : Request) (r : Reply)
-      → Run columns row spare tied p g xs rs q h → OneCall columns row spare tied x q h r z k → Run columns row spare tied p g (xs ++ (x ∷ [])) (rs ++ (r ∷ [])) z k
+module _ {G : Type 0} (columns : ℕ → Columns) (row : G → Row) (spare : G → ℕ) where
+  pub snoc : {p q z : Prompt} {g h k : G} {xs : List Request} {rs : List Reply} (x : Request) (r : Reply)
+      → Run columns row spare p g xs rs q h → OneCall columns row spare x q h r z k → Run columns row spare p g (xs ++ (x ∷ [])) (rs ++ (r ∷ [])) z k
   snoc x r none s = next s none
   snoc x r (next t run) s = next t (snoc x r run s)
 
-  prompts : {p q : Prompt} {g h : G} {xs : List Request} {rs : List Reply} → Run columns row spare tied p g xs rs q h → ℕ → Prompt
+  prompts : {p q : Prompt} {g h : G} {xs : List Request} {rs : List Reply} → Run columns row spare p g xs rs q h → ℕ → Prompt
   prompts {p = p} none i = p
   prompts {p = p} (next s run) zero = p
   prompts (next s run) (suc i) = prompts run i
 
-  glasses : {p q : Prompt} {g h : G} {xs : List Request} {rs : List Reply} → Run columns row spare tied p g xs rs q h → ℕ → G
+  glasses : {p q : Prompt} {g h : G} {xs : List Request} {rs : List Reply} → Run columns row spare p g xs rs q h → ℕ → G
   glasses {g = g} none i = g
   glasses {g = g} (next s run) zero = g
   glasses (next s run) (suc i) = glasses run i
 
-  prompt_first : {p q : Prompt} {g h : G} {xs : List Request} {rs : List Reply} (run : Run columns row spare tied p g xs rs q h) → prompts run 0 ≡ p
+  prompt_first : {p q : Prompt} {g h : G} {xs : List Request} {rs : List Reply} (run : Run columns row spare p g xs rs q h) → prompts run 0 ≡ p
   unfolding prompts
   prompt_first none = refl
   prompt_first (next s run) = refl
 
-  glass_first : {p q : Prompt} {g h : G} {xs : List Request} {rs : List Reply} (run : Run columns row spare tied p g xs rs q h) → glasses run 0 ≡ g
+  glass_first : {p q : Prompt} {g h : G} {xs : List Request} {rs : List Reply} (run : Run columns row spare p g xs rs q h) → glasses run 0 ≡ g
   unfolding glasses
   glass_first none = refl
   glass_first (next s run) = refl
 
-  prompt_last : {p q : Prompt} {g h : G} {xs : List Request} {rs : List Reply} (run : Run columns row spare tied p g xs rs q h) → prompts run (length xs) ≡ q
+  prompt_last : {p q : Prompt} {g h : G} {xs : List Request} {rs : List Reply} (run : Run columns row spare p g xs rs q h) → prompts run (length xs) ≡ q
   unfolding prompts
   prompt_last none = refl
   prompt_last (next s run) = prompt_last run
 
-  glass_last : {p q : Prompt} {g h : G} {xs : List Request} {rs : List Reply} (run : Run columns row spare tied p g xs rs q h) → glasses run (length xs) ≡ h
+  glass_last : {p q : Prompt} {g h : G} {xs : List Request} {rs : List Reply} (run : Run columns row spare p g xs rs q h) → glasses run (length xs) ≡ h
   unfolding glasses
   glass_last none = refl
   glass_last (next s run) = glass_last run
 
   -- each call of a run is one call
-  each : {p q : Prompt} {g h : G} {xs : List Request} {rs : List Reply} (run : Run columns row spare tied p g xs rs q h) (i : ℕ) → i < length xs
-      → OneCall columns row spare tied (get_or xs i draw) (prompts run i) (glasses run i) (get_or rs i Done) (prompts run (suc i)) (glasses run (suc i))
+  each : {p q : Prompt} {g h : G} {xs : List Request} {rs : List Reply} (run : Run columns row spare p g xs rs q h) (i : ℕ) → i < length xs
+      → OneCall columns row spare (get_or xs i draw) (prompts run i) (glasses run i) (get_or rs i Done) (prompts run (suc i)) (glasses run (suc i))
   unfolding prompts glasses
   each none i l = absurd (omega arith)
   each (next {p = p} {q = q} {g = g} {x = x} {r = r} s run) zero l =
-      subst (λ z. OneCall columns row spare tied x p g r z (glasses run 0)) (sym (prompt_first run)) (subst (λ z. OneCall columns row spare tied x p g r q z) (sym (glass_first run)) s)
+      subst (λ z. OneCall columns row spare x p g r z (glasses run 0)) (sym (prompt_first run)) (subst (λ z. OneCall columns row spare x p g r q z) (sym (glass_first run)) s)
   each (next s run) (suc i) l = each run i (omega arith)
 
-  entered_by : (x : Request) (p q : Prompt) (g h : G) (r : Reply) → OneCall columns row spare tied x p g r q h → ledger (session q) ≡ step columns x (was_refused r) (ledger (session p))
+  entered_by : (x : Request) (p q : Prompt) (g h : G) (r : Reply) → OneCall columns row spare x p g r q h → ledger (session q) ≡ step columns x (was_refused r) (ledger (session p))
   entered_by x p q g h r s =
       ⊎_elim
-      (λ (e : refused_now row spare x p g ≡ None).
+      (λ (e : refused_now columns row spare x p g ≡ None).
       let a = s.accepted e in
-      let f : was_refused r ≡ false = ap was_refused a.answered ∙ answer_accepts columns (drawn_at row x g) x (session p) in
-      ap ledger a.prompt_after ∙ ledger_agrees columns (drawn_at row x g) x (session p) ∙ ap (λ (b : Bool). step columns x b (ledger (session p))) (sym f))
+      let f : was_refused r ≡ false = ap was_refused a.answered ∙ answer_accepts columns (drawn_at columns row spare x g) x (session p) in
+      ap ledger a.prompt_after ∙ ledger_agrees columns (drawn_at columns row spare x g) x (session p) ∙ ap (λ (b : Bool). step columns x b (ledger (session p))) (sym f))
       (λ e. let a = s.refused e.0 e.1 in
       let f : was_refused r ≡ true = ap was_refused a.told_why in
       ap (λ (z : Prompt). ledger (session z)) a.same_prompt ∙ ap (λ (b : Bool). step columns x b (ledger (session p))) (sym f))
-      (decided (refused_now row spare x p g))
+      (decided (refused_now columns row spare x p g))
 
-  kept_ledger : {p q : Prompt} {g h : G} {xs : List Request} {rs : List Reply} (run : Run columns row spare tied p g xs rs q h) (b : Ledger) → ledger (session p) ≡ b → (j : ℕ) → j ≤ length xs
+  kept_ledger : {p q : Prompt} {g h : G} {xs : List Request} {rs : List Reply} (run : Run columns row spare p g xs rs q h) (b : Ledger) → ledger (session p) ≡ b → (j : ℕ) → j ≤ length xs
       → ledger (session (prompts run j)) ≡ fed columns b (refusals (take j xs) (take j rs))
   unfolding prompts
   kept_ledger none b e zero l = e
@@ -122,35 +117,20 @@ module _ {G : Type 0} (columns : ℕ → Columns) (row : G → Row) (spare : G �
   kept_ledger (next {p = p} {q = q} {g = g} {h = h} {x = x} {r = r} s run) b e (suc j) l =
       kept_ledger run (step columns x (was_refused r) b) (entered_by x p q g h r s ∙ ap (step columns x (was_refused r)) e) j (omega arith)
 
-  -- the glass calls of one call, and of all
-  made_by : (x : Request) (p q : Prompt) (g h : G) (r : Reply) → OneCall columns row spare tied x p g r q h → (ks : List GlassCall) × StaysTied ks (tied g) (tied h)
-  made_by x p q g h r s =
-      ⊎_elim
-      (λ (e : refused_now row spare x p g ≡ None). (_, (s.accepted e).drew.stays_tied))
-      (λ e. ([], subst (λ (z : G). StaysTied [] (tied g) (tied z)) (sym (s.refused e.0 e.1).same_glass) (tied_still (tied g))))
-      (decided (refused_now row spare x p g))
-
-  all_made : {p q : Prompt} {g h : G} {xs : List Request} {rs : List Reply} → Run columns row spare tied p g xs rs q h → (ks : List GlassCall) × StaysTied ks (tied g) (tied h)
-  all_made {g = g} none = ([], tied_still (tied g))
-  all_made (next {p = p} {q = q} {g = g} {h = h} {x = x} {r = r} s run) =
-      let one = made_by x p q g h r s in
-      let others = all_made run in
-      (one.0 ++ others.0, tied_then one.1 others.1)
-
   -- what has to be kept from call to call: `Good b p g`, where b says whether a draw was accepted
   module _ (Good : Bool → Prompt → G → Type 0)
-      (kept : (b : Bool) (x : Request) (p q : Prompt) (g h : G) (r : Reply) → Good b p g → OneCall columns row spare tied x p g r q h → Good (seen b x r) q h)
+      (kept : (b : Bool) (x : Request) (p q : Prompt) (g h : G) (r : Reply) → Good b p g → OneCall columns row spare x p g r q h → Good (seen b x r) q h)
       (is_drawn : (p : Prompt) (g : G) → Good true p g → ShowsThePrompt columns (session p) (row g))
       (in-sight : (p : Prompt) (g : G) → Good true p g → CursorInSight columns (session p).label (draft_in_hand (session p)) (row g))
-      (width : (x : Request) (p q : Prompt) (g h : G) (r : Reply) → OneCall columns row spare tied x p g r q h → refused_now row spare x p g ≡ None → width_of (row h) ≡ drawn_at row x g) where
-    good_on : {p q : Prompt} {g h : G} {xs : List Request} {rs : List Reply} (run : Run columns row spare tied p g xs rs q h) (b : Bool) → b ≡ true → Good b p g → (j : ℕ) → j ≤ length xs → Good true (prompts run j) (glasses run j)
+      (width : (x : Request) (p q : Prompt) (g h : G) (r : Reply) → OneCall columns row spare x p g r q h → refused_now columns row spare x p g ≡ None → width_of (row h) ≡ drawn_at columns row spare x g) where
+    good_on : {p q : Prompt} {g h : G} {xs : List Request} {rs : List Reply} (run : Run columns row spare p g xs rs q h) (b : Bool) → b ≡ true → Good b p g → (j : ℕ) → j ≤ length xs → Good true (prompts run j) (glasses run j)
     unfolding prompts glasses
     good_on {p = p} {g = g} none b e s zero l = subst (λ v. Good v p g) e s
     good_on none b e s (suc j) l = absurd (omega arith)
     good_on {p = p} {g = g} (next t run) b e s zero l = subst (λ v. Good v p g) e s
     good_on (next {p = p} {q = q} {g = g} {h = h} {x = x} {r = r} t run) b e s (suc j) l = good_on run (seen b x r) (still b x r e) (kept b x p q g h r s t) j (omega arith)
 
-    good_from : {p q : Prompt} {g h : G} {xs : List Request} {rs : List Reply} (run : Run columns row spare tied p g xs rs q h) (b : Bool) → Good b p g → (i j : ℕ) → AcceptedDraw xs rs i → i < j → j ≤ length xs → Good true (prompts run j) (glasses run j)
+    good_from : {p q : Prompt} {g h : G} {xs : List Request} {rs : List Reply} (run : Run columns row spare p g xs rs q h) (b : Bool) → Good b p g → (i j : ℕ) → AcceptedDraw xs rs i → i < j → j ≤ length xs → Good true (prompts run j) (glasses run j)
     unfolding prompts glasses
     good_from none b s i j d l m = absurd (omega arith)
     good_from (next t run) b s i zero d l m = absurd (omega arith)
@@ -159,22 +139,18 @@ module _ {G : Type 0} (columns : ℕ → Columns) (row : G → Row) (spare : G �
     good_from (next {p = p} {q = q} {g = g} {h = h} {x = x} {r = r} t run) b s (suc i) (suc j) d l m =
         good_from run (seen b x r) (kept b x p q g h r s t) i j (record { is_a_call = omega (arith, d.is_a_call); is_draw = d.is_draw; is_accepted = d.is_accepted }) (omega arith) (omega arith)
 
-    pub row_shows_the_draft : {p q : Prompt} {g h : G} {xs : List Request} {rs : List Reply} (label history : List ℕ) → Run columns row spare tied p g xs rs q h → Good false p g
-        → session p ≡ opened_with label history → ledger (session p) ≡ opened (remembered_texts history)
-        → RowShowsTheDraft columns row spare tied label history xs rs g q h
-    row_shows_the_draft label history run s o e = record {
+    pub row_shows_the_draft : {p q : Prompt} {g h : G} {xs : List Request} {rs : List Reply} (texts : List (List ℕ)) → Run columns row spare p g xs rs q h → Good false p g → ledger (session p) ≡ opened texts
+        → RowShowsTheDraft columns row spare texts xs rs p g q h
+    row_shows_the_draft texts run s e = record {
       prompt_after = prompts run;
       glass_after = glasses run;
-      opened_at_first = ap session (prompt_first run) ∙ o;
-      glass_as_found = glass_first run;
+      at_first = (prompt_first run, glass_first run);
       at_last = (prompt_last run, glass_last run);
       refused_by_the_table = λ i l f t. let a = (each run i l).refused f t in (a.told_why, a.same_prompt, a.same_glass);
       else_answered_by_the_rules = λ i l t. (((each run i l).accepted t).answered, width _ _ _ _ _ _ (each run i l) t);
       row_is_drawing = λ i j d l m. is_drawn _ _ (good_from run false s i j d l m);
       cursor_in_sight = λ i j d l m. in-sight _ _ (good_from run false s i j d l m);
-      drafts_are_ledger = kept_ledger run (opened (remembered_texts history)) e;
-      glass_calls_made = (all_made run).0;
-      glass_stays_tied = (all_made run).1;
+      drafts_are_ledger = kept_ledger run (opened texts) e;
     }
 
 drop_set : {A : Type 0} (xs : List A) (i : ℕ) (v : A) → drop (suc i) (set xs i v) ≡ drop (suc i) xs
@@ -190,10 +166,10 @@ drop_one (x ∷ xs) (suc i) = drop_one xs i
 pub rest_kept : {A : Type 0} (xs ys : List A) (i : ℕ) (v : A) → drop i xs ≡ drop i ys → drop (i + 1) (set xs i v) ≡ drop (i + 1) ys
 rest_kept xs ys i v e = let q : i + 1 ≡ suc i = omega arith in rw q (drop_set xs i v ∙ drop_one xs i ∙ ap (drop 1) e ∙ sym (drop_one ys i))
 
-module _ {G : Type 0} (columns : ℕ → Columns) (row : G → Row) (spare : G → ℕ) (tied : G → Tied) where
+module _ {G : Type 0} (columns : ℕ → Columns) (row : G → Row) (spare : G → ℕ) where
   pub again : {p q z : Prompt} {g h k : G} (cs : List Call) (rs : List Reply) (i : ℕ) (d : Call) (r : Reply) → i < length cs → i < length rs
-      → Run columns row spare tied p g (map request (take i cs)) (take i rs) q h
-      → OneCall columns row spare tied (request (get_or cs i d)) q h r z k
-      → Run columns row spare tied p g (map request (take (i + 1) cs)) (take (i + 1) (set rs i r)) z k
+      → Run columns row spare p g (map request (take i cs)) (take i rs) q h
+      → OneCall columns row spare (request (get_or cs i d)) q h r z k
+      → Run columns row spare p g (map request (take (i + 1) cs)) (take (i + 1) (set rs i r)) z k
   again cs rs i d r hc hr run s =
-      rw (take_more cs i d hc, take_more_set rs i r hr, map-append request (take i cs) (get_or cs i d ∷ [])) (snoc columns row spare tied (request (get_or cs i d)) r run s)
+      rw (take_more cs i d hc, take_more_set rs i r hr, map-append request (take i cs) (get_or cs i d ∷ [])) (snoc columns row spare (request (get_or cs i d)) r run s)

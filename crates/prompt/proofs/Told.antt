@@ -9,7 +9,7 @@ use Rattle.draft.specs.Edits.{unless_refused}
 use Rattle.prompt.specs.declared.state.Prompt.{Prompt}
 use Rattle.prompt.specs.Requests.{Request, draw, answered_by}
 use Rattle.prompt.specs.Refused.{refusal}
-use Rattle.prompt.specs.Session.{OneCall}
+use Rattle.prompt.proofs.CallTied.{OneCallTied}
 
 -- an answer that is refused, or not
 pub refused_with : {A : Type 0} (o : Option Refusal) (a : A) (e : Refusal) → unless_refused o a ≡ Err e → o ≡ Some e
@@ -27,7 +27,7 @@ at_glass n w s v t wide pays o h = subst (λ (k : ℕ). refusal draw n k t 0 ≡
 module _ {G : Type 0} (columns : ℕ → Columns) (row : G → Row) (spare : G → ℕ) (tied : G → Tied) (x : Request) (p : Prompt) (g : G) where
   -- a refusal that was handed on
   pub handed_on : (r : Result DisplayAction Refusal) (e : Refusal) (q : Prompt) → r ≡ Err e → q ≡ p
-      → OneCall columns row spare tied x p g (answered_by (Err e)) p g → OneCall columns row spare tied x p g (answered_by r) q g
+      → OneCallTied columns row spare tied x p g (answered_by (Err e)) p g → OneCallTied columns row spare tied x p g (answered_by r) q g
   handed_on r e q back same o =
-      subst (λ (z : Prompt). OneCall columns row spare tied x p g (answered_by r) z g) (sym same)
-      (subst (λ (z : Result DisplayAction Refusal). OneCall columns row spare tied x p g (answered_by z) p g) (sym back) o)
+      subst (λ (z : Prompt). OneCallTied columns row spare tied x p g (answered_by r) z g) (sym same)
+      (subst (λ (z : Result DisplayAction Refusal). OneCallTied columns row spare tied x p g (answered_by z) p g) (sym back) o)

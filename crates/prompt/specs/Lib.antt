@@ -3,6 +3,7 @@ pub mod Examples
 pub mod Finished
 pub mod Keys
 pub mod Ledger
+pub mod Made
 pub mod Opening
 pub mod Promise
 pub mod Refused

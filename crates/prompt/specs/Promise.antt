@@ -3,8 +3,7 @@ use Rattle.std.specs.Prelude.{◌≡◌, ℕ, suc, ◌+◌, ◌-◌, ◌<◌, �
 use Rattle.font.specs.declared.Columns.{Columns}
 use Rattle.text.specs.declared.refusal.Refusal.{Refusal}
 use Rattle.glass.specs.Row.{Row, blank_row, width_of}
-use Rattle.glass.specs.Calls.{GlassCall}
-use Rattle.glass.specs.Ties.{Tied, StaysTied}
+use Rattle.glass.specs.Calls.{apply_all}
 use Rattle.draft.specs.Draft.{Draft}
 use Rattle.draft.specs.Scroll.{shown_columns}
 use Rattle.prompt.specs.declared.state.Prompt.{Prompt}
@@ -14,9 +13,7 @@ use Rattle.drawing.specs.Drawing.{text_start, cursor_column}
 use Rattle.drawing.specs.Sight.{RowIsDrawing, CursorInSight}
 use Rattle.prompt.specs.Requests.{Request, draw, was_refused}
 use Rattle.prompt.specs.Ledger.{Ledger, opened, fed}
-use Rattle.history.specs.Session.{remembered_texts}
-use Rattle.prompt.specs.Opening.{opened_with}
-use Rattle.prompt.specs.Session.{Session, session, draft_in_hand, ledger, answer, refused_now, drawn_at}
+use Rattle.prompt.specs.Session.{Session, session, draft_in_hand, ledger, newly_opened, drawn, answer, refused_now, drawn_at}
 
 -- The row, its pen and its cursor are those that the drawing of the prompt makes of a blank row.
 abbrev pub ShowsThePrompt : (ℕ → Columns) → Session → Row → Type 0
@@ -34,23 +31,22 @@ refusals [] rs = []
 refusals (x ∷ xs) [] = []
 refusals (x ∷ xs) (r ∷ rs) = (x, was_refused r) ∷ refusals xs rs
 
--- A prompt is opened with a label and bytes of history; calls xs, with replies rs, lead from the glass g as found to the prompt q
--- and the glass h.
-pub record RowShowsTheDraft {G : Type 0} (columns : ℕ → Columns) (row : G → Row) (spare : G → ℕ) (tied : G → Tied) (label history : List ℕ) (xs : List Request) (rs : List Reply) (g : G) (q : Prompt) (h : G) : Type 0 where
+-- Calls xs with replies rs lead from p, a prompt newly opened with the remembered texts, and the glass g as found
+-- to q and h.
+pub record RowShowsTheDraft {G : Type 0} (columns : ℕ → Columns) (row : G → Row) (spare : G → ℕ) (texts : List (List ℕ)) (xs : List Request) (rs : List Reply) (p : Prompt) (g : G) (q : Prompt) (h : G) : Type 0 where
   -- what the first i calls leave
   pub prompt_after : ℕ → Prompt
   pub glass_after : ℕ → G
-  pub opened_at_first : session (prompt_after 0) ≡ opened_with label history
-  pub glass_as_found : glass_after 0 ≡ g
+  pub at_first : (prompt_after 0 ≡ p) × (glass_after 0 ≡ g)
   pub at_last : (prompt_after (length xs) ≡ q) × (glass_after (length xs) ≡ h)
   -- a call is refused exactly where the table says so of what it finds, and changes nothing then
   pub refused_by_the_table : (i : ℕ) → i < length xs → (e : Refusal)
-      → refused_now row spare (slice_index_or xs i draw) (prompt_after i) (glass_after i) ≡ Some e
+      → refused_now columns row spare (slice_index_or xs i draw) (prompt_after i) (glass_after i) ≡ Some e
       → (slice_index_or rs i Done ≡ Refused e) × (prompt_after (suc i) ≡ prompt_after i) × (glass_after (suc i) ≡ glass_after i)
   pub else_answered_by_the_rules : (i : ℕ) → i < length xs
-      → refused_now row spare (slice_index_or xs i draw) (prompt_after i) (glass_after i) ≡ None
-      → (slice_index_or rs i Done ≡ answer columns (drawn_at row (slice_index_or xs i draw) (glass_after i)) (slice_index_or xs i draw) (session (prompt_after i)))
-      × (width_of (row (glass_after (suc i))) ≡ drawn_at row (slice_index_or xs i draw) (glass_after i))
+      → refused_now columns row spare (slice_index_or xs i draw) (prompt_after i) (glass_after i) ≡ None
+      → (slice_index_or rs i Done ≡ answer columns (drawn_at columns row spare (slice_index_or xs i draw) (glass_after i)) (slice_index_or xs i draw) (session (prompt_after i)))
+      × (width_of (row (glass_after (suc i))) ≡ drawn_at columns row spare (slice_index_or xs i draw) (glass_after i))
   -- from the first accepted draw on
   pub row_is_drawing : (i j : ℕ) → AcceptedDraw xs rs i → i < j → j ≤ length xs
       → ShowsThePrompt columns (session (prompt_after j)) (row (glass_after j))
@@ -58,7 +54,4 @@ pub record RowShowsTheDraft {G : Type 0} (columns : ℕ → Columns) (row : G �
       → CursorInSight columns (session (prompt_after j)).label (draft_in_hand (session (prompt_after j))) (row (glass_after j))
   -- and always
   pub drafts_are_ledger : (j : ℕ) → j ≤ length xs
-      → ledger (session (prompt_after j)) ≡ fed columns (opened (remembered_texts history)) (refusals (take j xs) (take j rs))
-  -- what lies behind the glass changed by glass calls alone
-  pub glass_calls_made : List GlassCall
-  pub glass_stays_tied : StaysTied glass_calls_made (tied g) (tied h)
+      → ledger (session (prompt_after j)) ≡ fed columns (opened texts) (refusals (take j xs) (take j rs))

@@ -4,9 +4,7 @@ use Rattle.text.specs.declared.refusal.Refusal.{Refusal}
 use Rattle.text.specs.Utf8.{characters}
 use Rattle.font.specs.declared.Columns.{Columns}
 use Rattle.glass.specs.Row.{Row, width_of}
-use Rattle.glass.specs.Calls.{GlassCall, text, reshape}
-use Rattle.glass.specs.Ties.{Tied}
-use Rattle.glass.specs.Drew.{Drew}
+use Rattle.glass.specs.Calls.{GlassCall, text, reshape, apply_all}
 use Rattle.draft.specs.declared.action.DisplayAction.{DisplayAction}
 use Rattle.draft.specs.declared.action.DisplayAction.TheVariants as action
 use Rattle.draft.specs.Line.{line, empty_line}
@@ -124,20 +122,19 @@ glass_calls columns width (key m k c) s = calls_by (action_of columns width (ope
 glass_calls columns width (paste bytes) s = drawn columns width (after columns width (paste bytes) s)
 glass_calls columns width (resize w) s = reshape w ∷ drawn columns width (after columns width (resize w) s)
 
--- the width that a call draws at on a glass
-abbrev pub drawn_at : {G : Type 0} → (G → Row) → Request → G → ℕ
-drawn_at row x g = width_after x (width_of (row g))
-
--- what the table says of a call
-abbrev pub refused_now : {G : Type 0} → (G → Row) → (G → ℕ) → Request → Prompt → G → Option Refusal
-refused_now row spare x p g = refusal x p.label_len (width_of (row g)) (spare g) (length (draft_in_hand (session p)).line.text)
-
 -- One call, from a prompt p and a glass g to q and h, with its reply.
-module _ {G : Type 0} (columns : ℕ → Columns) (row : G → Row) (spare : G → ℕ) (tied : G → Tied) where
+module _ {G : Type 0} (columns : ℕ → Columns) (row : G → Row) (spare : G → ℕ) where
+  -- what the table says of a call
+  abbrev pub refused_now : Request → Prompt → G → Option Refusal
+  refused_now x p g = refusal x p.label_len (width_of (row g)) (spare g) (length (draft_in_hand (session p)).line.text)
+
+  abbrev pub drawn_at : Request → G → ℕ
+  drawn_at x g = width_after x (width_of (row g))
+
   pub record Accepting (x : Request) (p : Prompt) (g : G) (r : Reply) (q : Prompt) (h : G) : Type 0 where
-    pub answered : r ≡ answer columns (drawn_at row x g) x (session p)
-    pub prompt_after : session q ≡ after columns (drawn_at row x g) x (session p)
-    pub drew : Drew columns row spare tied (glass_calls columns (drawn_at row x g) x (session p)) g h
+    pub answered : r ≡ answer columns (drawn_at x g) x (session p)
+    pub prompt_after : session q ≡ after columns (drawn_at x g) x (session p)
+    pub row_after : row h ≡ apply_all columns (glass_calls columns (drawn_at x g) x (session p)) (row g)
 
   pub record Refusing (e : Refusal) (p : Prompt) (g : G) (r : Reply) (q : Prompt) (h : G) : Type 0 where
     pub told_why : r ≡ Refused e
@@ -145,8 +142,8 @@ module _ {G : Type 0} (columns : ℕ → Columns) (row : G → Row) (spare : G �
     pub same_glass : h ≡ g
 
   pub record OneCall (x : Request) (p : Prompt) (g : G) (r : Reply) (q : Prompt) (h : G) : Type 0 where
-    pub refused : (e : Refusal) → refused_now row spare x p g ≡ Some e → Refusing e p g r q h
-    pub accepted : refused_now row spare x p g ≡ None → Accepting x p g r q h
+    pub refused : (e : Refusal) → refused_now x p g ≡ Some e → Refusing e p g r q h
+    pub accepted : refused_now x p g ≡ None → Accepting x p g r q h
 
 -- what an accepted call does to the drafts is what it enters in the ledger, at whatever width
 abbrev pub CallsEnterTheLedger : Type 0

@@ -3,12 +3,13 @@ ghost use Rattle.std.specs.Prelude.{◌≡◌, ℕ, ◌+◌, ◌-◌, ◌≤◌,
 ghost use Rattle.std.proofs.Math.Utf8.{scalar};
 ghost use Rattle.draft.specs.Edits.{unless_refused};
 ghost use Rattle.glass.specs.Row.{widest, width_of};
-ghost use Rattle.glass.specs.Calls.{Allowed};
-ghost use Rattle.glass.specs.Drew.{Drew};
+ghost use Rattle.glass.specs.Calls.{Allowed, Drew};
+ghost use Rattle.glass.specs.Ties.{StaysTied};
 ghost use Rattle.drawing.specs.Drawing.{longest_label};
 ghost use Rattle.prompt.specs.declared.keys.Modifiers.{Modifiers as Held};
 ghost use Rattle.prompt.specs.Edits.{editing, answer_to_edit, edit_refused};
 ghost use Rattle.prompt.specs.Keys.{operation as asked, typing};
+ghost use Rattle.prompt.specs.Made.{calls_made};
 ghost use Rattle.prompt.specs.Requests.{Request, reply_of, answered_by};
 ghost use Rattle.prompt.specs.Refused.{refusal, operation_refused, is_character, beside_label, least_spare};
 ghost use Rattle.prompt.specs.Session.{session, draft_in_hand, room, scrolled, drawn, with_draft, after_operation, action_of, calls_by, OneCall};
@@ -59,7 +60,8 @@ impl Prompt {
     fn render<G: Glass>(&self, glass: &mut G, width: usize)
         requires inside { (self.now.label_len + beside_label ≤ width) × (width ≤ widest) }
         requires allowed { Allowed G.Font.Font.columns (drawn G.Font.Font.columns width (session self.now)) (G.Glass.row glass.old) (G.Glass.spare glass.old) }
-        ensures drew { Drew G.Font.Font.columns G.Glass.row G.Glass.spare G.Glass.tied (drawn G.Font.Font.columns width (session self.now)) glass.old glass.new }
+        ensures drew { Drew G.Font.Font.columns G.Glass.row G.Glass.spare (drawn G.Font.Font.columns width (session self.now)) glass.old glass.new }
+        ensures keeps { StaysTied (drawn G.Font.Font.columns width (session self.now)) (G.Glass.tied glass.old) (G.Glass.tied glass.new) }
     {
         let draft = self.history.state();
         let label_len = self.label_len;
@@ -85,7 +87,9 @@ impl Prompt {
 
     /// Draws the draft in hand.
     pub fn draw<G: Glass>(&self, glass: &mut G) -> Result<(), Refusal>
-        ensures one_call { OneCall G.Font.Font.columns G.Glass.row G.Glass.spare G.Glass.tied Request.draw self.now glass.old (reply_of result) self.now glass.new }
+        ensures one_call { OneCall G.Font.Font.columns G.Glass.row G.Glass.spare Request.draw self.now glass.old (reply_of result) self.now glass.new }
+        ensures drew { Drew G.Font.Font.columns G.Glass.row G.Glass.spare (calls_made G.Font.Font.columns G.Glass.row G.Glass.spare Request.draw self.now glass.old) glass.old glass.new }
+        ensures keeps { StaysTied (calls_made G.Font.Font.columns G.Glass.row G.Glass.spare Request.draw self.now glass.old) (G.Glass.tied glass.old) (G.Glass.tied glass.new) }
     {
         let width = G::width(glass);
         ready(self.label_len, width, G::spare_left(glass))?;
@@ -95,7 +99,9 @@ impl Prompt {
 
     /// Gives the glass a new width, scrolls the draft in hand for it, and draws.
     pub fn resize<G: Glass>(&mut self, glass: &mut G, width: usize) -> Result<(), Refusal>
-        ensures one_call { OneCall G.Font.Font.columns G.Glass.row G.Glass.spare G.Glass.tied (Request.resize width) self.old glass.old (reply_of result) self.new glass.new }
+        ensures one_call { OneCall G.Font.Font.columns G.Glass.row G.Glass.spare (Request.resize width) self.old glass.old (reply_of result) self.new glass.new }
+        ensures drew { Drew G.Font.Font.columns G.Glass.row G.Glass.spare (calls_made G.Font.Font.columns G.Glass.row G.Glass.spare (Request.resize width) self.old glass.old) glass.old glass.new }
+        ensures keeps { StaysTied (calls_made G.Font.Font.columns G.Glass.row G.Glass.spare (Request.resize width) self.old glass.old) (G.Glass.tied glass.old) (G.Glass.tied glass.new) }
     {
         ready(self.label_len, width, G::spare_left(glass))?;
         sure::reshape(glass, width);
@@ -159,7 +165,8 @@ impl Prompt {
         requires inside { (self.now.label_len + beside_label ≤ width) × (width ≤ widest) × (width ≡ width_of (G.Glass.row glass.old)) }
         requires paid { least_spare ≤ G.Glass.spare glass.old }
         requires letter { action ≡ DisplayAction.Letter → scalar code ≡ true }
-        ensures drew { Drew G.Font.Font.columns G.Glass.row G.Glass.spare G.Glass.tied (calls_by action code (drawn G.Font.Font.columns width (session self.now))) glass.old glass.new }
+        ensures drew { Drew G.Font.Font.columns G.Glass.row G.Glass.spare (calls_by action code (drawn G.Font.Font.columns width (session self.now))) glass.old glass.new }
+        ensures keeps { StaysTied (calls_by action code (drawn G.Font.Font.columns width (session self.now))) (G.Glass.tied glass.old) (G.Glass.tied glass.new) }
     {
         match action {
             DisplayAction::Letter => sure::text(glass, &[code]),
@@ -176,7 +183,9 @@ impl Prompt {
         key: KeyCode,
         code: u32,
     ) -> Result<DisplayAction, Refusal>
-        ensures one_call { OneCall G.Font.Font.columns G.Glass.row G.Glass.spare G.Glass.tied (Request.key modifiers key code) self.old glass.old (answered_by result) self.new glass.new }
+        ensures one_call { OneCall G.Font.Font.columns G.Glass.row G.Glass.spare (Request.key modifiers key code) self.old glass.old (answered_by result) self.new glass.new }
+        ensures drew { Drew G.Font.Font.columns G.Glass.row G.Glass.spare (calls_made G.Font.Font.columns G.Glass.row G.Glass.spare (Request.key modifiers key code) self.old glass.old) glass.old glass.new }
+        ensures keeps { StaysTied (calls_made G.Font.Font.columns G.Glass.row G.Glass.spare (Request.key modifiers key code) self.old glass.old) (G.Glass.tied glass.old) (G.Glass.tied glass.new) }
     {
         let width = G::width(glass);
         ready(self.label_len, width, G::spare_left(glass))?;

@@ -3,6 +3,9 @@ ghost use Rattle.std.specs.Prelude.{◌≡◌, ◌+◌, ◌≤◌, OnErr, OnOk};
 ghost use Rattle.text.specs.Utf8.{characters};
 ghost use Rattle.draft.specs.declared.action.DisplayAction.TheVariants.{Redraw};
 ghost use Rattle.draft.specs.Edits.{inserting, pasting_refused, unless_refused};
+ghost use Rattle.glass.specs.Calls.{Drew};
+ghost use Rattle.glass.specs.Ties.{StaysTied};
+ghost use Rattle.prompt.specs.Made.{calls_made};
 ghost use Rattle.prompt.specs.Requests.{Request, answered_by};
 ghost use Rattle.prompt.specs.Refused.{beside_label};
 ghost use Rattle.prompt.specs.Session.{session, draft_in_hand, scrolled, with_draft, OneCall};
@@ -30,7 +33,9 @@ impl Prompt {
 
     /// Inserts the text that bytes spell, and shows it.
     pub fn paste<G: Glass>(&mut self, glass: &mut G, bytes: &[u8]) -> Result<DisplayAction, Refusal>
-        ensures one_call { OneCall F.Font.Font.columns G.Glass.row G.Glass.spare G.Glass.tied (Request.paste bytes.now) self.old glass.old (answered_by result) self.new glass.new }
+        ensures one_call { OneCall G.Font.Font.columns G.Glass.row G.Glass.spare (Request.paste bytes.now) self.old glass.old (answered_by result) self.new glass.new }
+        ensures drew { Drew G.Font.Font.columns G.Glass.row G.Glass.spare (calls_made G.Font.Font.columns G.Glass.row G.Glass.spare (Request.paste bytes.now) self.old glass.old) glass.old glass.new }
+        ensures keeps { StaysTied (calls_made G.Font.Font.columns G.Glass.row G.Glass.spare (Request.paste bytes.now) self.old glass.old) (G.Glass.tied glass.old) (G.Glass.tied glass.new) }
     {
         let width = G::width(glass);
         ready(self.label_len, width, G::spare_left(glass))?;

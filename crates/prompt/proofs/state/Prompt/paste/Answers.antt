@@ -2,6 +2,8 @@ use Rattle.std.proofs.Common.{◌≡◌, ℕ, ◌+◌, ◌≤◌, None, Err, sym
 use Rattle.std.proofs.lemmas.Result.{err_from_is_err_and}
 use Rattle.prompt.specs.Requests.{draw}
 use Rattle.prompt.specs.Refused.{refusal, beside_label}
+use Rattle.glass.proofs.DrewTied.{both}
+use Rattle.prompt.proofs.CallTied.{plainly, drew_made, kept_by}
 use Rattle.prompt.proofs.Ready.{ready, can_draw}
 use Rattle.prompt.proofs.Pasted.{refused_by_glass, refused_by_draft, done}
 use Rattle.prompt.proofs.state.Prompt.paste.Goals as goal
@@ -9,19 +11,25 @@ use Rattle.prompt.proofs.state.Prompt.paste.Goals as goal
 pub returns-in_err-ready : goal.returns-in_err-ready
 returns-in_err-ready g c =
     let back = err_from_is_err_and c.from-residual.result c.from-residual.ensures.1 in
-    record {
-      one_call = refused_by_glass g.G.Font.Font.columns g.G.Glass.row g.G.Glass.spare g.G.Glass.tied c.args.bytes.now c.args.self.now c.args.glass.now
+    let call = refused_by_glass g.G.Font.Font.columns g.G.Glass.row g.G.Glass.spare g.G.Glass.tied c.args.bytes.now c.args.self.now c.args.glass.now
           c.width-width.result c.spare_left.result c.width-width.ensures.value c.spare_left.ensures.value
-          c.in_err-ready.field-0.0 c.from-residual.result c.in_err-ready.ensures.refused_exactly (back.1 ∙ ap Err back.2);
+          c.in_err-ready.field-0.0 c.from-residual.result c.in_err-ready.ensures.refused_exactly (back.1 ∙ ap Err back.2) in
+    record {
+      one_call = plainly g.G.Font.Font.columns g.G.Glass.row g.G.Glass.spare g.G.Glass.tied call;
+      drew = drew_made g.G.Font.Font.columns g.G.Glass.row g.G.Glass.spare g.G.Glass.tied call;
+      keeps = kept_by g.G.Font.Font.columns g.G.Glass.row g.G.Glass.spare g.G.Glass.tied call;
     }
 
 pub returns-in_err-action : goal.returns-in_err-action
 returns-in_err-action g c =
     let back = err_from_is_err_and c.from-residual-in_err-action.result c.from-residual-in_err-action.ensures.1 in
-    record {
-      one_call = refused_by_draft g.G.Font.Font.columns g.G.Glass.row g.G.Glass.spare g.G.Glass.tied c.args.bytes.now c.args.self.now c.args.glass.now
+    let call = refused_by_draft g.G.Font.Font.columns g.G.Glass.row g.G.Glass.spare g.G.Glass.tied c.args.bytes.now c.args.self.now c.args.glass.now
           c.width-width.result c.spare_left.result c.width-width.ensures.value c.spare_left.ensures.value c.in_ok-ready.ensures.refused_exactly
-          c.in_err-action.field-0.0 c.from-residual-in_err-action.result c.insert.new.self (sym c.insert.ensures.answer_is ∙ c.in_err-action.was) (back.1 ∙ ap Err back.2) c.in_err-action.ensures.unchanged_if_refused;
+          c.in_err-action.field-0.0 c.from-residual-in_err-action.result c.insert.new.self (sym c.insert.ensures.answer_is ∙ c.in_err-action.was) (back.1 ∙ ap Err back.2) c.in_err-action.ensures.unchanged_if_refused in
+    record {
+      one_call = plainly g.G.Font.Font.columns g.G.Glass.row g.G.Glass.spare g.G.Glass.tied call;
+      drew = drew_made g.G.Font.Font.columns g.G.Glass.row g.G.Glass.spare g.G.Glass.tied call;
+      keeps = kept_by g.G.Font.Font.columns g.G.Glass.row g.G.Glass.spare g.G.Glass.tied call;
     }
 
 pub render-requires : goal.render-requires
@@ -41,8 +49,11 @@ render-requires g c =
 
 pub returns : goal.returns
 returns g c =
-    record {
-      one_call = done g.G.Font.Font.columns g.G.Glass.row g.G.Glass.spare g.G.Glass.tied c.args.bytes.now c.args.self.now c.args.glass.now
+    let call = done g.G.Font.Font.columns g.G.Glass.row g.G.Glass.spare g.G.Glass.tied c.args.bytes.now c.args.self.now c.args.glass.now
           c.width-width.result c.spare_left.result c.width-width.ensures.value c.spare_left.ensures.value c.in_ok-ready.ensures.refused_exactly
-          c.in_ok-action.action c.insert.new.self c.render.new.glass (sym c.insert.ensures.answer_is ∙ c.in_ok-action.was) c.in_ok-action.ensures.after c.render.ensures.drew;
+          c.in_ok-action.action c.insert.new.self c.render.new.glass (sym c.insert.ensures.answer_is ∙ c.in_ok-action.was) c.in_ok-action.ensures.after (both g.G.Font.Font.columns g.G.Glass.row g.G.Glass.spare g.G.Glass.tied c.render.ensures.drew c.render.ensures.keeps) in
+    record {
+      one_call = plainly g.G.Font.Font.columns g.G.Glass.row g.G.Glass.spare g.G.Glass.tied call;
+      drew = drew_made g.G.Font.Font.columns g.G.Glass.row g.G.Glass.spare g.G.Glass.tied call;
+      keeps = kept_by g.G.Font.Font.columns g.G.Glass.row g.G.Glass.spare g.G.Glass.tied call;
     }

@@ -1,6 +1,6 @@
 use Rattle.std.proofs.Common.{◌≡◌, ◌-◌, ◌≤◌, List, length, take, sym, ap, ◌∙◌, subst, arith}
 use Rattle.glass.specs.Calls.{GlassCall, Allowed}
-use Rattle.glass.specs.Drew.{Drew}
+use Rattle.glass.proofs.DrewTied.{DrewTied, both, untied_drew}
 use Rattle.draft.specs.Draft.{draft_of}
 use Rattle.drawing.specs.Drawing.{framed}
 use Rattle.prompt.specs.Session.{session, drawn}
@@ -24,6 +24,8 @@ returns g c =
     let cols = g.G.Font.Font.columns in
     let p = c.args.self.now in
     let e = prompt_framed cols p c.args.width (draft_of c.state-draft.result.now) c.shown.result.now c.cursor_position.result c.min-cursor.result c.state-draft.ensures.value c.shown.ensures.value c.cursor_position.ensures.value c.min-cursor.ensures in
+    let all = subst (λ (ks : List GlassCall). DrewTied cols g.G.Glass.row g.G.Glass.spare g.G.Glass.tied ks c.args.glass.now c.draw.new.glass) e (both cols g.G.Glass.row g.G.Glass.spare g.G.Glass.tied c.draw.ensures.drew c.draw.ensures.keeps) in
     record {
-      drew = subst (λ (ks : List GlassCall). Drew cols g.G.Glass.row g.G.Glass.spare g.G.Glass.tied ks c.args.glass.now c.draw.new.glass) e c.draw.ensures.drew;
+      drew = untied_drew cols g.G.Glass.row g.G.Glass.spare g.G.Glass.tied all;
+      keeps = all.stays_tied;
     }

@@ -2,12 +2,12 @@ use Rattle.std.proofs.Common.{◌≡◌, ℕ, ◌+◌, ◌≤◌, [], ◌∷◌,
 use lib.ListN.{length-replicate}
 use Rattle.glass.specs.Row.{width_of, blank_cell}
 use Rattle.glass.specs.Calls.{reshape}
-use Rattle.glass.specs.Drew.{Drew}
-use Rattle.glass.proofs.Drew.{drew_then}
+use Rattle.glass.proofs.DrewTied.{DrewTied, both, drew_then}
 use Rattle.prompt.specs.declared.session.Reply.TheVariants.{Done}
 use Rattle.prompt.specs.Requests.{draw, resize}
 use Rattle.prompt.specs.Refused.{refusal, beside_label}
 use Rattle.prompt.specs.Session.{Session, session, drawn}
+use Rattle.prompt.proofs.CallTied.{plainly, drew_made, kept_by}
 use Rattle.prompt.proofs.Ready.{ready, can_draw, accepts}
 use Rattle.prompt.proofs.state.Prompt.resize.Goals as goal
 
@@ -39,11 +39,14 @@ returns g c =
     let f = c.args.glass.now in
     let h = c.render.new.glass in
     let e : refusal draw p.label_len w (spare f) 0 ≡ None = subst (λ (n : ℕ). refusal draw p.label_len w n 0 ≡ None) c.spare_left.ensures.value c.in_ok-ready.ensures.refused_exactly in
-    let then = drew_then cols row spare tied (reshape w ∷ []) (drawn cols w (session q)) f c.reshape.new.glass h c.reshape.ensures.drew c.render.ensures.drew in
-    record {
-      one_call = accepts cols row spare tied (resize w) p q f h Done e (record {
+    let then = drew_then cols row spare tied (reshape w ∷ []) (drawn cols w (session q)) f c.reshape.new.glass h (both cols row spare tied c.reshape.ensures.drew c.reshape.ensures.keeps) (both cols row spare tied c.render.ensures.drew c.render.ensures.keeps) in
+    let call = accepts cols row spare tied (resize w) p q f h Done e (record {
         answered = refl;
         prompt_after = c.scroll.ensures.after;
-        drew = subst (λ (s : Session). Drew cols row spare tied (reshape w ∷ drawn cols w s) f h) c.scroll.ensures.after then;
-      });
+        drew = subst (λ (s : Session). DrewTied cols row spare tied (reshape w ∷ drawn cols w s) f h) c.scroll.ensures.after then;
+      }) in
+    record {
+      one_call = plainly g.G.Font.Font.columns g.G.Glass.row g.G.Glass.spare g.G.Glass.tied call;
+      drew = drew_made g.G.Font.Font.columns g.G.Glass.row g.G.Glass.spare g.G.Glass.tied call;
+      keeps = kept_by g.G.Font.Font.columns g.G.Glass.row g.G.Glass.spare g.G.Glass.tied call;
     }
