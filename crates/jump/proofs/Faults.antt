@@ -1,11 +1,11 @@
 -- The steps of reading digits from the left: the value so far, and the first fault so far.
-use Rattle.std.proofs.Common.{◌≡◌, ℕ, zero, suc, ◌+◌, ◌-◌, ◌*◌, ◌^◌, ◌<◌, ◌≤◌, Bool, true, false, cond, leb, List, [], ◌∷◌, ◌++◌, length, get_or, take, Some, None, Ok, Err, Option, Result, sym, refl, ap, ◌∙◌, subst, inl, inr, mul_assoc, pow-suc, add-one, arith, MatchResult}
+use Rattle.std.proofs.Common.{◌≡◌, ℕ, zero, suc, ◌+◌, ◌-◌, ◌*◌, ◌^◌, ◌<◌, ◌≤◌, Bool, true, false, cond, leb, List, [], ◌∷◌, ◌++◌, length, get_or, take, Some, None, Ok, Err, Result, refl, ◌∙◌, inl, inr, mul_assoc, pow-suc, add-one, arith, MatchResult}
 use Rattle.std.proofs.lemmas.List.{length_push, take_more, take_all}
 use Rattle.std.proofs.lemmas.Bool.{cases_eq}
 use Rattle.text.specs.declared.refusal.Refusal.{Refusal}
 use Rattle.text.specs.declared.refusal.Refusal.TheVariants.{InvalidDigit}
 use Rattle.jump.specs.declared.number.Sign.{Sign}
-use Rattle.jump.specs.Numeral.{value, is_digit, limit, passed, one_more, fault_at, first_fault, or_else, unless_faulty, digits_read}
+use Rattle.jump.specs.Numeral.{value, is_digit, limit, passed, one_more, fault_at, first_fault, digits_read}
 
 pub value_push : (cs : List ℕ) (c : ℕ) → value (cs ++ (c ∷ [])) ≡ 10 * value cs + (c - 0x30)
 value_push [] c = omega arith

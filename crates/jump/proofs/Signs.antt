@@ -1,7 +1,6 @@
 -- A text by its sign.
-use Rattle.std.proofs.Common.{◌≡◌, ℕ, ◌-◌, ◌≤◌, List, [], ◌∷◌, length, get_or, take, drop, sym, refl, ap, ◌∙◌, arith}
+use Rattle.std.proofs.Common.{◌≡◌, ℕ, ◌-◌, ◌≤◌, List, [], ◌∷◌, length, get_or, take, drop, arith}
 use Rattle.std.proofs.lemmas.List.{take_all}
-use Rattle.jump.specs.declared.number.Sign.{Sign}
 use Rattle.jump.specs.declared.number.Sign.TheVariants.{Plus, Minus}
 use Rattle.jump.specs.Numeral.{after_sign_read, number_read}
 

@@ -1,5 +1,5 @@
 -- The laws of the jump.
-use Rattle.std.proofs.Common.{◌≡◌, ℕ, zero, suc, ◌+◌, ◌-◌, ◌*◌, ◌/◌, ◌<◌, ◌≤◌, min, Bool, true, false, cond, ◌&&◌, ◌||◌, eqb, ltb, leb, ◌⊎◌, List, [], ◌∷◌, length, get_or, take, ℤ, pos, negsuc, Some, None, Ok, Err, Option, Result, sym, refl, ap, ◌∙◌, subst, inl, inr, add-zero, mul-le-mul_right, add-one, arith}
+use Rattle.std.proofs.Common.{◌≡◌, ℕ, zero, suc, ◌+◌, ◌-◌, ◌*◌, ◌/◌, ◌<◌, ◌≤◌, Bool, true, false, cond, ◌&&◌, ◌||◌, eqb, ltb, leb, List, [], ◌∷◌, length, get_or, take, ℤ, pos, negsuc, Some, None, Ok, Err, Option, Result, refl, ap, ◌∙◌, subst, inl, inr, add-zero, mul-le-mul_right, arith}
 use native.Mathlib.Nat.{div-le_of_le-mul}
 use Rattle.std.proofs.lemmas.List.{take_all}
 use Rattle.std.proofs.lemmas.Bool.{leb-true, le-leb, eqb-true, cases_eq, cond_both}
@@ -9,8 +9,8 @@ use Rattle.jump.specs.declared.number.Sign.{Sign}
 use Rattle.jump.specs.declared.number.Sign.TheVariants.{Plus, Minus}
 use Rattle.jump.specs.declared.goto.Jump.{Jump}
 use Rattle.jump.specs.declared.goto.Jump.TheVariants.{Quit, Stay, Line}
-use Rattle.jump.specs.Numeral.{is_digit, value, limit, passed, signed, fault_at, first_fault, or_else, unless_faulty, digits_read, with_sign, after_sign_read, sign_of, after_sign, number_read}
-use Rattle.jump.specs.Goto.{line_at, line_at_percent, percent_held, to_line, ends_in_percent, without_last, target_of, goto_text, goes_to, most_lines}
+use Rattle.jump.specs.Numeral.{is_digit, value, limit, signed, fault_at, first_fault, or_else, unless_faulty, with_sign, after_sign_read, number_read}
+use Rattle.jump.specs.Goto.{line_at, line_at_percent, percent_held, to_line, ends_in_percent, target_of, goto_text, goes_to, most_lines}
 use Rattle.jump.specs.Laws.{Spelled, Numeral, ReadsJustNumerals, StaysInTheListing, TenLines}
 use Rattle.jump.proofs.Faults.{value_more}
 

@@ -1,7 +1,7 @@
-use Rattle.std.proofs.Common.{◌≡◌, ◌+◌, List, length, get_or, take, Some, None, Ok, Err, sym, ap, ◌∙◌, arith}
+use Rattle.std.proofs.Common.{◌≡◌, get_or, take, Ok, Err, sym, ap, ◌∙◌, arith}
 use Rattle.std.proofs.lemmas.Bool.{leb-true}
 use Rattle.std.proofs.lemmas.Result.{err_from_is_err_and, MatchResult-at_ok, MatchResult-at_err, IfOk-from_err}
-use Rattle.jump.specs.Numeral.{value, fault_at, one_more}
+use Rattle.jump.specs.Numeral.{value, one_more}
 use Rattle.jump.proofs.Faults.{first_fault_more, read_more, stops_reading, ends_reading}
 use Rattle.jump.proofs.number.magnitude.Goals as goal
 
@@ -10,10 +10,10 @@ returns-in_err-value c =
     let s = c.args.sign in
     let cs = c.args.digits.now in
     let i = c.loop-c.c-index in
-    let back = err_from_is_err_and c.from-residual.result c.from-residual.ensures.1 in
+    let back = err_from_is_err_and c.from_residual.result c.from_residual.ensures.1 in
     let read : c.read_on.result ≡ one_more s (value (take i cs)) (get_or cs i 0) = rw c.loop-c.invariant.1 at c.read_on.ensures.value in
     let fault = MatchResult-at_err _ _ c.in_err-value.field-0.0 c.in_err-value.was (read_more s cs i c.read_on.result c.loop-c-test.true read) in
-    record { value = back.1 ∙ ap Err back.2 ∙ sym (stops_reading s cs i _ c.loop-c-test.true c.loop-c.invariant.0 fault); bound = IfOk-from_err _ _ c.from-residual.ensures.0 }
+    record { value = back.1 ∙ ap Err back.2 ∙ sym (stops_reading s cs i _ c.loop-c-test.true c.loop-c.invariant.0 fault); bound = IfOk-from_err _ _ c.from_residual.ensures.0 }
 
 pub loop-c-preserved : goal.loop-c-preserved
 loop-c-preserved c =
