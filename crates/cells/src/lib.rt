@@ -1,3 +1,5 @@
 // The cell row: a glass in memory of its own, which its host can read back.
+#![tactic(auto)]
+
 pub mod cell_row;
 pub mod table;

@@ -16,13 +16,13 @@ invariant_of-self g c =
     let at = s.column in
     let f = wiped s.slots s.width at (omega arith) (omega arith) c.fill.new.self (c.fill.ensures.after (λ y h. h)) in
     let n = ap (λ xs. length (put_mid at (s.width - at) s.slots xs)) f ∙ wiped_length s.slots s.width at (omega arith) (omega arith) in
-    let r = c.start-self.ensures.within in (
-      (omega arith, omega arith),
-      (
-        ap (rises 0) (sym (take-take c.start-self.result s.count s.marks r)) ∙ rises_front c.start-self.result (records s) s.ordered,
-        (ap (all_before s.width) (sym (take-take c.start-self.result s.count s.marks r)) ∙ before_front s.width c.start-self.result (records s) s.inside, ((omega arith, omega arith, omega arith, omega arith), tt)),
-      ),
-    )
+    let r = c.start-self.ensures.within in
+    record {
+      sizes = (omega arith, omega arith);
+      ordered = ap (rises 0) (sym (take-take c.start-self.result s.count s.marks r)) ∙ rises_front c.start-self.result (records s) s.ordered;
+      inside = ap (all_before s.width) (sym (take-take c.start-self.result s.count s.marks r)) ∙ before_front s.width c.start-self.result (records s) s.inside;
+      within = (omega arith, omega arith, omega arith, omega arith);
+    }
 
 pub returns : goal.returns
 returns g c =

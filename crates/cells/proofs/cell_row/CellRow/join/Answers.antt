@@ -18,13 +18,13 @@ invariant_of-self g c =
     let k = opens s.marks c.open_gap.new.items s.count at mark c.open_gap.result c.start-at.ensures.within (omega arith) c.open_gap.ensures.opens c.open_gap.ensures.after in
     let z = k.size in
     let b = c.in-Some.ensures.below in
-    let l = length-set c.open_gap.new.items at mark in (
-      (omega arith, omega arith),
-      (
-        ap (rises 0) k.front ∙ rises_inserted (records s) c.in-Some.column c.args.code at s.ordered c.start-at.ensures.starts,
-        (ap (all_before s.width) k.front ∙ before_inserted s.width at mark (records s) (omega arith) s.inside, ((omega arith, omega arith, omega arith, omega arith), tt)),
-      ),
-    )
+    let l = length-set c.open_gap.new.items at mark in
+    record {
+      sizes = (omega arith, omega arith);
+      ordered = ap (rises 0) k.front ∙ rises_inserted (records s) c.in-Some.column c.args.code at s.ordered c.start-at.ensures.starts;
+      inside = ap (all_before s.width) k.front ∙ before_inserted s.width at mark (records s) (omega arith) s.inside;
+      within = (omega arith, omega arith, omega arith, omega arith);
+    }
 
 pub returns-in-Some : goal.returns-in-Some
 returns-in-Some g c =

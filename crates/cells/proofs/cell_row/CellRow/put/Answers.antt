@@ -17,13 +17,13 @@ invariant_of-self g c =
     let o = c.run-from.ensures.within in
     let k = closes s.marks c.close_gap.new.items s.count from to c.close_gap.result o.0 o.1 (omega arith) c.close_gap.ensures.closes c.close_gap.ensures.after in
     let z = k.size in
-    let l = length-set s.slots c.args.at c.args.slot in (
-      (omega arith, omega arith),
-      (
-        ap (rises 0) k.front ∙ rises_removed (records s) c.args.at from to s.ordered c.run-from.ensures.starts c.run-from.ensures.ends,
-        (ap (all_before s.width) k.front ∙ before_removed s.width from to (records s) s.inside, ((omega arith, omega arith, omega arith, omega arith), tt)),
-      ),
-    )
+    let l = length-set s.slots c.args.at c.args.slot in
+    record {
+      sizes = (omega arith, omega arith);
+      ordered = ap (rises 0) k.front ∙ rises_removed (records s) c.args.at from to s.ordered c.run-from.ensures.starts c.run-from.ensures.ends;
+      inside = ap (all_before s.width) k.front ∙ before_removed s.width from to (records s) s.inside;
+      within = (omega arith, omega arith, omega arith, omega arith);
+    }
 
 pub returns : goal.returns
 returns g c =

@@ -5,5 +5,5 @@ use Rattle.cells.proofs.cell_row.CellRow.put_text.Given as goal
 
 abbrev pub invariant-loop-c : goal.invariant-loop-c
 invariant-loop-c g l =
-    (with_text g.row.F-Font.columns (drop l.c-index l.characters) (shows l.self) ≡ with_text g.row.F-Font.columns l.characters (shows l.initial.self))
+    (with_text g.F.Font.columns (drop l.c-index l.characters) (shows l.self) ≡ with_text g.F.Font.columns l.characters (shows l.initial.self))
     × (l.self.count ≤ l.initial.self.count + l.c-index)

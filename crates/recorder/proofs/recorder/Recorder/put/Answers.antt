@@ -9,16 +9,13 @@ invariant_of-self g c =
     let e : take c.loop-i.self.used (set c.loop-i.self.bytes.now (c.args.at + c.loop-i.i) (get_or c.args.part.now c.loop-i.i 0)) ≡ take c.loop-i.self.used c.loop-i.self.bytes.now =
     take-set-le c.loop-i.self.used c.loop-i.self.bytes.now (c.args.at + c.loop-i.i) (get_or c.args.part.now c.loop-i.i 0) (omega arith) in
     let n = length-set c.loop-i.self.bytes.now (c.args.at + c.loop-i.i) (get_or c.args.part.now c.loop-i.i 0) in
-    let w : c.loop-i.self.limit ≤ length (set c.loop-i.self.bytes.now (c.args.at + c.loop-i.i) (get_or c.args.part.now c.loop-i.i 0)) = omega arith in (
-      (c.loop-i.self.within.0, c.loop-i.self.within.1, w),
-      (
-        c.loop-i.self.begun,
-        (
-          subst (Written c.loop-i.self.line) (sym e) c.loop-i.self.reads,
-          ((ap log_width e ∙ c.loop-i.self.shape.0, c.loop-i.self.shape.1), tt),
-        ),
-      ),
-    )
+    let w : c.loop-i.self.limit ≤ length (set c.loop-i.self.bytes.now (c.args.at + c.loop-i.i) (get_or c.args.part.now c.loop-i.i 0)) = omega arith in
+    record {
+      within = (c.loop-i.self.within.0, c.loop-i.self.within.1, w);
+      begun = c.loop-i.self.begun;
+      reads = subst (Written c.loop-i.self.line) (sym e) c.loop-i.self.reads;
+      shape = (ap log_width e ∙ c.loop-i.self.shape.0, c.loop-i.self.shape.1);
+    }
 
 pub loop-i-preserved : goal.loop-i-preserved
 loop-i-preserved g c =

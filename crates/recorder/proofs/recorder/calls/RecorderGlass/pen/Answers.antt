@@ -20,6 +20,6 @@ returns g c =
     let h = c.enter.new.self in
     let k = pen c.args.change in
     record {
-      obeys = accepted s g.row.F-Font.columns k (log h) 4 h.limit h.used refl (omega arith) refl (c.enter.ensures.log ∙ ap (λ b. log s ++ (0 ∷ 2 ∷ 2 ∷ b ∷ [])) c.pen_code.ensures.value) c.enter.ensures.limit c.enter.ensures.used (omega arith);
+      obeys = accepted s g.F.Font.columns k (log h) 4 h.limit h.used refl (omega arith) refl (c.enter.ensures.log ∙ ap (λ b. log s ++ (0 ∷ 2 ∷ 2 ∷ b ∷ [])) c.pen_code.ensures.value) c.enter.ensures.limit c.enter.ensures.used (omega arith);
       keeps = record { same_names = ap (λ n. n ∷ []) c.enter.ensures.keeps; same_line = c.enter.ensures.line; uses_more = omega arith; rest_kept = c.enter.ensures.rest; on_record = recorded s k (log h) (omega arith) (taken_from k s.width refl refl) (c.enter.ensures.log ∙ ap (λ b. log s ++ (0 ∷ 2 ∷ 2 ∷ b ∷ [])) c.pen_code.ensures.value) };
     }

@@ -24,7 +24,7 @@ returns g c =
     let h = c.enter.new.self in
     let k = place c.args.column in
     record {
-      obeys = accepted s g.row.F-Font.columns k (log h) 7 h.limit h.used (lt-leb s.width c.args.column (omega arith)) (omega arith) refl c.enter.ensures.log c.enter.ensures.limit c.enter.ensures.used (omega arith);
+      obeys = accepted s g.F.Font.columns k (log h) 7 h.limit h.used (lt-leb s.width c.args.column (omega arith)) (omega arith) refl c.enter.ensures.log c.enter.ensures.limit c.enter.ensures.used (omega arith);
       keeps = record { same_names = ap (λ n. n ∷ []) c.enter.ensures.keeps; same_line = c.enter.ensures.line; uses_more = omega arith; rest_kept = c.enter.ensures.rest; on_record = recorded s k (log h) (omega arith) (taken_from k s.width (lt-leb s.width c.args.column (omega arith)) refl) c.enter.ensures.log };
     }
 
@@ -32,10 +32,10 @@ pub returns-then-column-self : goal.returns-then-column-self
 returns-then-column-self g c =
     let s = c.args.self.now in
     let k = place c.args.column in
-    record { obeys = (refused_here s g.row.F-Font.columns k (Some OutsideGlass) (refused_outside k s.width (spare_of s) (le-leb s.width c.args.column (omega arith))), refl); keeps = tied_still (tied_of s) }
+    record { obeys = (refused_here s g.F.Font.columns k (Some OutsideGlass) (refused_outside k s.width (spare_of s) (le-leb s.width c.args.column (omega arith))), refl); keeps = tied_still (tied_of s) }
 
 pub returns-then-paid_by-lt1 : goal.returns-then-paid_by-lt1
 returns-then-paid_by-lt1 g c =
     let s = c.args.self.now in
     let k = place c.args.column in
-    record { obeys = (refused_here s g.row.F-Font.columns k (Some LowSpare) (refused_spare k s.width (spare_of s) (lt-leb s.width c.args.column (omega arith)) (omega arith)), refl); keeps = tied_still (tied_of s) }
+    record { obeys = (refused_here s g.F.Font.columns k (Some LowSpare) (refused_spare k s.width (spare_of s) (lt-leb s.width c.args.column (omega arith)) (omega arith)), refl); keeps = tied_still (tied_of s) }

@@ -21,6 +21,6 @@ returns g c =
     let h = c.enter.new.self in
     let k = reshape c.args.width in
     record {
-      obeys = accepted s g.row.F-Font.columns k (log h) 5 h.limit h.used (some_width c.args.width (omega arith) (omega arith)) (omega arith) refl c.enter.ensures.log c.enter.ensures.limit c.enter.ensures.used (omega arith);
+      obeys = accepted s g.F.Font.columns k (log h) 5 h.limit h.used (some_width c.args.width (omega arith) (omega arith)) (omega arith) refl c.enter.ensures.log c.enter.ensures.limit c.enter.ensures.used (omega arith);
       keeps = record { same_names = ap (λ n. n ∷ []) c.enter.ensures.keeps; same_line = c.enter.ensures.line; uses_more = omega arith; rest_kept = c.enter.ensures.rest; on_record = recorded s k (log h) (omega arith) (taken_from k s.width (some_width c.args.width (omega arith) (omega arith)) refl) c.enter.ensures.log };
     }

@@ -19,10 +19,13 @@ invariant_of-self g c =
     let all : scalars cs ≡ true = sym c.all_scalars.ensures.value ∙ c.if-not-all_scalars.false in
     let o = entered s k new (s.begun (omega arith)) (taken_from k s.width refl (ap not all)) e in
     let u = c.put.ensures.used in let l = c.put.ensures.limit in let m = c.put_text-end.ensures.limit in let d = c.put_text-end.ensures.end in
-    let v = c.put_text-end.ensures.width ∙ c.put.ensures.width in (
-      (omega arith, h.within.1, h.within.2),
-      (λ _. omega arith, (subst (λ n. Written n new) (sym (c.put_text-end.ensures.line ∙ c.put.ensures.line)) o.reads, ((o.width ∙ sym v, h.shape.1), tt))),
-    )
+    let v = c.put_text-end.ensures.width ∙ c.put.ensures.width in
+    record {
+      within = (omega arith, h.within.1, h.within.2);
+      begun = λ _. omega arith;
+      reads = subst (λ n. Written n new) (sym (c.put_text-end.ensures.line ∙ c.put.ensures.line)) o.reads;
+      shape = (o.width ∙ sym v, h.shape.1);
+    }
 
 pub returns : goal.returns
 returns g c =
@@ -38,7 +41,7 @@ returns g c =
     let all : scalars cs ≡ true = sym c.all_scalars.ensures.value ∙ c.if-not-all_scalars.false in
     let d = c.put_text-end.ensures.end in
     record {
-      obeys = accepted s g.row.F-Font.columns k new (3 + length (encodes cs)) h.limit c.put_text-end.result refl (omega arith) (ap not all) e (c.put_text-end.ensures.limit ∙ c.put.ensures.limit) (omega arith) (omega arith);
+      obeys = accepted s g.F.Font.columns k new (3 + length (encodes cs)) h.limit c.put_text-end.result refl (omega arith) (ap not all) e (c.put_text-end.ensures.limit ∙ c.put.ensures.limit) (omega arith) (omega arith);
       keeps = record {
         same_names = ap (λ n. n ∷ []) (c.put_text-end.ensures.keeps ∙ c.put.ensures.keeps);
         same_line = c.put_text-end.ensures.line ∙ c.put.ensures.line;

@@ -7,4 +7,4 @@ use Rattle.recorder.proofs.recorder.calls.RecorderGlass.width.Goals as goal
 pub returns : goal.returns
 returns g c =
     let s = c.args.self.now in
-    record { value = sym (width_is s g.row.F-Font.columns); showable = log_showable g.row.F-Font.columns s.line (log s) s.reads }
+    record { value = sym (width_is s g.F.Font.columns); showable = log_showable g.F.Font.columns s.line (log s) s.reads }
