@@ -14,7 +14,7 @@ overflow_add-result c = omega (arith, c.remember-active_index.ensures.value, ap 
 pub invariant_of-result : goal.invariant_of-result
 invariant_of-result c =
     let few : c.remember-active_index.result < 32 = omega (arith, c.remember-active_index.ensures.value, ap length c.last_lines.ensures.value, few_remembered (readable_lines c.args.history.now)) in
-    ((omega arith, omega arith, c.remember-active_index.array_long), tt)
+    record { ok = (omega arith, omega arith, c.remember-active_index.array_long) }
 
 pub returns : goal.returns
 returns c =
