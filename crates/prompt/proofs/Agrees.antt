@@ -1,9 +1,9 @@
 -- What a call does to the drafts is what it enters in the ledger.
-use Rattle.std.proofs.Common.{◌≡◌, ℕ, zero, suc, ◌+◌, ◌-◌, ◌<◌, ◌≤◌, Bool, true, false, cond, List, [], ◌∷◌, ◌++◌, map, length, get_or, take, set, sym, refl, ap, ◌∙◌, subst}
+use Rattle.std.proofs.Common.{◌≡◌, ℕ, List, sym, refl, ap, ◌∙◌}
 use lib.ListN.{length-map, get_or-map}
 use lib.Seq.{map-set, map-set_same}
 use Rattle.font.specs.declared.Columns.{Columns}
-use Rattle.draft.specs.Line.{Line, line, empty_line, with_inserted}
+use Rattle.draft.specs.Line.{Line, empty_line, with_inserted}
 use Rattle.draft.specs.Draft.{Draft, draft}
 use Rattle.text.specs.Utf8.{characters}
 use Rattle.prompt.specs.declared.keys.Operation.{Operation}

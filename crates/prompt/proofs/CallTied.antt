@@ -6,7 +6,7 @@ use Rattle.glass.specs.Row.{Row}
 use Rattle.glass.specs.Calls.{GlassCall, Drew}
 use Rattle.glass.specs.Ties.{Tied, StaysTied}
 use Rattle.glass.proofs.Ties.{tied_still, tied_then}
-use Rattle.glass.proofs.DrewTied.{DrewTied, drew_none, both, untied_drew}
+use Rattle.glass.proofs.DrewTied.{DrewTied, drew_none, untied_drew}
 use Rattle.prompt.specs.declared.state.Prompt.{Prompt}
 use Rattle.prompt.specs.declared.session.Reply.{Reply}
 use Rattle.prompt.specs.Requests.{Request}

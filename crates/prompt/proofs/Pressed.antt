@@ -1,5 +1,5 @@
 -- A key, by the rows of the table.
-use Rattle.std.proofs.Common.{◌≡◌, ℕ, ◌+◌, ◌≤◌, Bool, true, false, cond, not, ◌&&◌, ◌||◌, ltb, List, length, Some, None, Ok, Err, Option, Result, sym, refl, ap, ◌∙◌, subst, arith}
+use Rattle.std.proofs.Common.{◌≡◌, ℕ, ◌+◌, true, false, cond, not, ◌&&◌, ◌||◌, ltb, List, length, Some, None, Ok, Err, Option, Result, sym, refl, ap, ◌∙◌, subst}
 use lib.Utf8.{scalar}
 use Rattle.text.specs.declared.refusal.Refusal.{Refusal}
 use Rattle.text.specs.declared.refusal.Refusal.TheVariants.{OutsideGlass, LowSpare, NotScalar, DraftFull}
@@ -13,7 +13,6 @@ use Rattle.draft.specs.Line.{capacity}
 use Rattle.draft.specs.Edits.{unless_refused}
 use Rattle.prompt.specs.declared.keys.Modifiers.{Modifiers}
 use Rattle.prompt.specs.declared.keys.KeyCode.{KeyCode}
-use Rattle.prompt.specs.declared.keys.Operation.{Operation}
 use Rattle.prompt.specs.declared.session.Reply.TheVariants.{Answered}
 use Rattle.prompt.specs.declared.state.Prompt.{Prompt}
 use Rattle.prompt.specs.Keys.{operation as asked, typing}

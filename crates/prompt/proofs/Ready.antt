@@ -1,5 +1,5 @@
 -- Where no call is refused, a drawing can be paid for.
-use Rattle.std.proofs.Common.{◌≡◌, ℕ, zero, suc, ◌+◌, ◌-◌, ◌<◌, ◌≤◌, min, true, cond, ◌||◌, ltb, List, [], ◌∷◌, map, length, get_or, take, drop, IfErr, Some, None, Ok, Err, Result, sym, refl, ap, ◌∙◌, subst, arith, length-take, ltb-false}
+use Rattle.std.proofs.Common.{◌≡◌, ℕ, zero, suc, ◌+◌, ◌-◌, ◌≤◌, min, true, cond, ◌||◌, ltb, List, [], ◌∷◌, map, length, get_or, take, IfErr, Some, None, Ok, Err, Result, sym, refl, ap, ◌∙◌, subst, arith, length-take, ltb-false}
 use mathlib.Core.HLevel.{is_prop→PathP}
 use mathlib.Core.Bool.{Bool-set}
 use native.Mathlib.Bridge.{le_prop}
@@ -14,7 +14,7 @@ use Rattle.glass.specs.Calls.{Allowed}
 use Rattle.glass.specs.Ties.{Tied}
 use Rattle.draft.specs.declared.state.PromptState.{PromptState}
 use Rattle.draft.specs.Line.{capacity}
-use Rattle.draft.specs.Draft.{Draft, draft, draft_of, shown_text}
+use Rattle.draft.specs.Draft.{Draft, draft_of, shown_text}
 use Rattle.draft.proofs.Drafts.{drafts_are_sound}
 use Rattle.draft.specs.Scroll.{shown_columns}
 use Rattle.drawing.specs.Drawing.{longest_label, framed, cursor_column, drawing}

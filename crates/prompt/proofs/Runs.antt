@@ -1,16 +1,15 @@
 -- From single calls to whole runs.
-use Rattle.std.proofs.Common.{◌≡◌, ℕ, zero, suc, ◌+◌, ◌-◌, ◌<◌, ◌≤◌, Bool, true, false, cond, ◌⊎◌, List, [], ◌∷◌, ◌++◌, map, length, get_or, take, drop, set, Some, None, Option, sym, refl, ap, ◌∙◌, subst, inl, inr, ⊎_elim, arith}
+use Rattle.std.proofs.Common.{◌≡◌, ℕ, zero, suc, ◌+◌, ◌<◌, ◌≤◌, Bool, true, false, ◌⊎◌, List, [], ◌∷◌, ◌++◌, map, length, get_or, take, drop, set, Some, None, Option, sym, refl, ap, ◌∙◌, subst, inl, inr, ⊎_elim, arith}
 use Rattle.std.proofs.lemmas.List.{take_more, take_more_set, map-append}
 use Rattle.font.specs.declared.Columns.{Columns}
-use Rattle.text.specs.declared.refusal.Refusal.{Refusal}
 use Rattle.glass.specs.Row.{Row, width_of}
 use Rattle.prompt.specs.declared.state.Prompt.{Prompt}
 use Rattle.prompt.specs.declared.session.Reply.{Reply}
 use Rattle.prompt.specs.declared.session.Reply.TheVariants.{Done, Answered, Refused}
 use Rattle.prompt.specs.declared.session.Call.{Call}
 use Rattle.prompt.specs.Requests.{Request, draw, key, paste, resize, request, was_refused}
-use Rattle.prompt.specs.Ledger.{Ledger, opened, entered, step, fed}
-use Rattle.prompt.specs.Session.{Session, session, draft_in_hand, ledger, after, answer, refused_now, drawn_at, OneCall}
+use Rattle.prompt.specs.Ledger.{Ledger, opened, step, fed}
+use Rattle.prompt.specs.Session.{Session, session, draft_in_hand, ledger, answer, refused_now, drawn_at, OneCall}
 use Rattle.prompt.specs.Runs.{Run, none, next}
 use Rattle.prompt.specs.Promise.{ShowsThePrompt, AcceptedDraw, refusals, RowShowsTheDraft}
 use Rattle.drawing.specs.Sight.{CursorInSight}

@@ -1,12 +1,11 @@
 -- The table of refusals, row by row.
-use Rattle.std.proofs.Common.{◌≡◌, ℕ, ◌+◌, ◌<◌, ◌≤◌, Bool, true, false, cond, not, ◌&&◌, ltb, leb, [], ◌∷◌, length, Some, None, Option, sym, refl, ap, ◌∙◌, arith}
-use lib.Utf8.{scalar, scalars}
+use Rattle.std.proofs.Common.{◌≡◌, ℕ, ◌+◌, ◌≤◌, Bool, true, false, cond, ltb, leb, length, Some, None, Option, refl, arith}
+use lib.Utf8.{scalar}
 use Rattle.std.proofs.lemmas.Bool.{le-ltb, lt-ltb, leb-true, leb-false}
 use Rattle.text.specs.declared.refusal.Refusal.{Refusal}
-use Rattle.text.specs.declared.refusal.Refusal.TheVariants.{NotScalar, DraftFull}
+use Rattle.text.specs.declared.refusal.Refusal.TheVariants.{DraftFull}
 use Rattle.draft.specs.Line.{capacity}
 use Rattle.draft.specs.Draft.{Draft}
-use Rattle.draft.specs.Edits.{insertion_refused}
 use Rattle.prompt.specs.declared.keys.Edit.{Edit}
 use Rattle.prompt.specs.declared.keys.Edit.TheVariants.{Insert, Remove, Move, Transpose}
 use Rattle.prompt.specs.declared.keys.Operation.{Operation}

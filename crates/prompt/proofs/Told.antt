@@ -1,5 +1,5 @@
 -- What the test of the glass tells of a call, whichever it is.
-use Rattle.std.proofs.Common.{◌≡◌, ℕ, Some, None, Ok, Err, Option, Result, sym, refl, ap, ◌∙◌, subst, arith}
+use Rattle.std.proofs.Common.{◌≡◌, ℕ, Some, None, Ok, Err, Option, Result, sym, refl, ap, subst, arith}
 use Rattle.text.specs.declared.refusal.Refusal.{Refusal}
 use Rattle.font.specs.declared.Columns.{Columns}
 use Rattle.glass.specs.Row.{Row}

@@ -1,19 +1,15 @@
 -- What a seller may rely on over any list of calls.
-use Rattle.std.specs.Prelude.{◌≡◌, ℕ, suc, ◌+◌, ◌-◌, ◌<◌, ◌≤◌, Bool, true, false, ◌⊎◌, List, [], ◌∷◌, ◌++◌, length, get_or, take, Some, None, Option, slice_index_or}
+use Rattle.std.specs.Prelude.{◌≡◌, ℕ, suc, ◌<◌, ◌≤◌, Bool, false, List, [], ◌∷◌, length, get_or, take, Some, None, slice_index_or}
 use Rattle.font.specs.declared.Columns.{Columns}
 use Rattle.text.specs.declared.refusal.Refusal.{Refusal}
-use Rattle.glass.specs.Row.{Row, blank_row, width_of}
-use Rattle.glass.specs.Calls.{apply_all}
-use Rattle.draft.specs.Draft.{Draft}
-use Rattle.draft.specs.Scroll.{shown_columns}
+use Rattle.glass.specs.Row.{Row, width_of}
 use Rattle.prompt.specs.declared.state.Prompt.{Prompt}
 use Rattle.prompt.specs.declared.session.Reply.{Reply}
-use Rattle.prompt.specs.declared.session.Reply.TheVariants.{Done, Answered, Refused}
-use Rattle.drawing.specs.Drawing.{text_start, cursor_column}
+use Rattle.prompt.specs.declared.session.Reply.TheVariants.{Done, Refused}
 use Rattle.drawing.specs.Sight.{RowIsDrawing, CursorInSight}
 use Rattle.prompt.specs.Requests.{Request, draw, was_refused}
-use Rattle.prompt.specs.Ledger.{Ledger, opened, fed}
-use Rattle.prompt.specs.Session.{Session, session, draft_in_hand, ledger, newly_opened, drawn, answer, refused_now, drawn_at}
+use Rattle.prompt.specs.Ledger.{opened, fed}
+use Rattle.prompt.specs.Session.{Session, session, draft_in_hand, ledger, answer, refused_now, drawn_at}
 
 -- The row, its pen and its cursor are those that the drawing of the prompt makes of a blank row.
 abbrev pub ShowsThePrompt : (ℕ → Columns) → Session → Row → Type 0

@@ -8,7 +8,7 @@ use Rattle.glass.specs.Calls.{GlassCall, text, reshape, apply_all}
 use Rattle.draft.specs.declared.action.DisplayAction.{DisplayAction}
 use Rattle.draft.specs.declared.action.DisplayAction.TheVariants as action
 use Rattle.draft.specs.Line.{line, empty_line}
-use Rattle.draft.specs.Draft.{Draft, draft, draft_of}
+use Rattle.draft.specs.Draft.{Draft, draft}
 use Rattle.draft.specs.Edits.{inserting, clamping, redraw_if}
 use Rattle.drawing.specs.Drawing.{drawing, text_start}
 use Rattle.history.specs.Session.{session_of}

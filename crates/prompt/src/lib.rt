@@ -1,4 +1,6 @@
 // The prompt: a label, the drafts of a session, and the calls that show them on a glass.
+#![tactic(auto)]
+
 pub mod calls;
 pub mod finished;
 mod in_hand;

@@ -1,7 +1,6 @@
-use Rattle.std.proofs.Common.{◌≡◌, get_or, sym, refl, ap, ◌∙◌}
-use Rattle.std.proofs.lemmas.Result.{IfOk-weaker}
+use Rattle.std.proofs.Common.{get_or, ap}
 use Rattle.draft.specs.Edits.{clamping}
-use Rattle.history.proofs.InHand.{entry_in_hand, edited_in_hand, unedited_in_hand, refused_weaker}
+use Rattle.history.proofs.InHand.{edited_in_hand}
 use Rattle.prompt.proofs.in_hand.scroll.Goals as goal
 
 pub returns : goal.returns

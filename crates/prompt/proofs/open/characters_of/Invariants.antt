@@ -1,4 +1,4 @@
-use Rattle.std.proofs.Common.{◌≡◌, ◌≤◌, length, take}
+use Rattle.std.proofs.Common.{◌≡◌, length, take}
 use Rattle.drawing.specs.Drawing.{longest_label}
 use Rattle.prompt.proofs.open.characters_of.Given as goal
 

@@ -1,4 +1,3 @@
-use Rattle.std.proofs.Common.{◌≡◌}
 use Rattle.history.specs.Session.{remembered_texts}
 use Rattle.prompt.proofs.Kept.{promise}
 use Rattle.prompt.proofs.session.run.run.Goals as goal

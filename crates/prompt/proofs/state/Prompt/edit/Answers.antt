@@ -1,4 +1,4 @@
-use Rattle.std.proofs.Common.{◌≡◌, ℕ, Ok, Err, sym, refl, ap, ◌∙◌}
+use Rattle.std.proofs.Common.{ℕ, Err, sym, refl, ap, ◌∙◌}
 use Rattle.std.proofs.lemmas.Result.{err_from_is_err_and, IfOk-from_err}
 use Rattle.draft.specs.Edits.{unless_refused}
 use Rattle.history.specs.Session as history
@@ -11,13 +11,13 @@ pub returns-in_err-action : goal.returns-in_err-action
 returns-in_err-action g c =
     let p = c.args.self.now in
     let d = draft_in_hand (session p) in
-    let back = err_from_is_err_and c.from-residual.result c.from-residual.ensures.1 in
+    let back = err_from_is_err_and c.from_residual.result c.from_residual.ensures.1 in
     record {
       answer_is = back.1 ∙ ap Err back.2 ∙ sym c.in_err-action.was ∙ c.edit.ensures.answer_is
           ∙ ap (λ (n : ℕ). unless_refused (edit_refused c.args.edit c.args.code d) (answer_to_edit g.F.Font.columns n c.args.edit c.args.code d)) (room_is p c.args.width);
-      after = IfOk-from_err _ _ c.from-residual.ensures.0;
+      after = IfOk-from_err _ _ c.from_residual.ensures.0;
       label_kept = refl;
-      unchanged_if_refused = refused_so c.from-residual.result _ (same_prompt _ p refl refl c.in_err-action.ensures.unchanged_if_refused);
+      unchanged_if_refused = refused_so c.from_residual.result _ (same_prompt _ p refl refl c.in_err-action.ensures.unchanged_if_refused);
     }
 
 pub returns : goal.returns

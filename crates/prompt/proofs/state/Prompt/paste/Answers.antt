@@ -10,10 +10,10 @@ use Rattle.prompt.proofs.state.Prompt.paste.Goals as goal
 
 pub returns-in_err-ready : goal.returns-in_err-ready
 returns-in_err-ready g c =
-    let back = err_from_is_err_and c.from-residual.result c.from-residual.ensures.1 in
+    let back = err_from_is_err_and c.from_residual.result c.from_residual.ensures.1 in
     let call = refused_by_glass g.G.Font.Font.columns g.G.Glass.row g.G.Glass.spare g.G.Glass.tied c.args.bytes.now c.args.self.now c.args.glass.now
-          c.width-width.result c.spare_left.result c.width-width.ensures.value c.spare_left.ensures.value
-          c.in_err-ready.field-0.0 c.from-residual.result c.in_err-ready.ensures.refused_exactly (back.1 ∙ ap Err back.2) in
+    c.width-width.result c.spare_left.result c.width-width.ensures.value c.spare_left.ensures.value
+    c.in_err-ready.field-0.0 c.from_residual.result c.in_err-ready.ensures.refused_exactly (back.1 ∙ ap Err back.2) in
     record {
       one_call = plainly g.G.Font.Font.columns g.G.Glass.row g.G.Glass.spare g.G.Glass.tied call;
       drew = drew_made g.G.Font.Font.columns g.G.Glass.row g.G.Glass.spare g.G.Glass.tied call;
@@ -22,10 +22,10 @@ returns-in_err-ready g c =
 
 pub returns-in_err-action : goal.returns-in_err-action
 returns-in_err-action g c =
-    let back = err_from_is_err_and c.from-residual-in_err-action.result c.from-residual-in_err-action.ensures.1 in
+    let back = err_from_is_err_and c.from_residual-in_err-action.result c.from_residual-in_err-action.ensures.1 in
     let call = refused_by_draft g.G.Font.Font.columns g.G.Glass.row g.G.Glass.spare g.G.Glass.tied c.args.bytes.now c.args.self.now c.args.glass.now
-          c.width-width.result c.spare_left.result c.width-width.ensures.value c.spare_left.ensures.value c.in_ok-ready.ensures.refused_exactly
-          c.in_err-action.field-0.0 c.from-residual-in_err-action.result c.insert.new.self (sym c.insert.ensures.answer_is ∙ c.in_err-action.was) (back.1 ∙ ap Err back.2) c.in_err-action.ensures.unchanged_if_refused in
+    c.width-width.result c.spare_left.result c.width-width.ensures.value c.spare_left.ensures.value c.in_ok-ready.ensures.refused_exactly
+    c.in_err-action.field-0.0 c.from_residual-in_err-action.result c.insert.new.self (sym c.insert.ensures.answer_is ∙ c.in_err-action.was) (back.1 ∙ ap Err back.2) c.in_err-action.ensures.unchanged_if_refused in
     record {
       one_call = plainly g.G.Font.Font.columns g.G.Glass.row g.G.Glass.spare g.G.Glass.tied call;
       drew = drew_made g.G.Font.Font.columns g.G.Glass.row g.G.Glass.spare g.G.Glass.tied call;
@@ -50,8 +50,8 @@ render-requires g c =
 pub returns : goal.returns
 returns g c =
     let call = done g.G.Font.Font.columns g.G.Glass.row g.G.Glass.spare g.G.Glass.tied c.args.bytes.now c.args.self.now c.args.glass.now
-          c.width-width.result c.spare_left.result c.width-width.ensures.value c.spare_left.ensures.value c.in_ok-ready.ensures.refused_exactly
-          c.in_ok-action.action c.insert.new.self c.render.new.glass (sym c.insert.ensures.answer_is ∙ c.in_ok-action.was) c.in_ok-action.ensures.after (both g.G.Font.Font.columns g.G.Glass.row g.G.Glass.spare g.G.Glass.tied c.render.ensures.drew c.render.ensures.keeps) in
+    c.width-width.result c.spare_left.result c.width-width.ensures.value c.spare_left.ensures.value c.in_ok-ready.ensures.refused_exactly
+    c.in_ok-action.action c.insert.new.self c.render.new.glass (sym c.insert.ensures.answer_is ∙ c.in_ok-action.was) c.in_ok-action.ensures.after (both g.G.Font.Font.columns g.G.Glass.row g.G.Glass.spare g.G.Glass.tied c.render.ensures.drew c.render.ensures.keeps) in
     record {
       one_call = plainly g.G.Font.Font.columns g.G.Glass.row g.G.Glass.spare g.G.Glass.tied call;
       drew = drew_made g.G.Font.Font.columns g.G.Glass.row g.G.Glass.spare g.G.Glass.tied call;

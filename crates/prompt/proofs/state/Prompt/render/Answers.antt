@@ -1,9 +1,7 @@
-use Rattle.std.proofs.Common.{◌≡◌, ◌-◌, ◌≤◌, List, length, take, sym, ap, ◌∙◌, subst, arith}
+use Rattle.std.proofs.Common.{◌≡◌, ◌-◌, List, length, take, sym, ap, ◌∙◌, subst, arith}
 use Rattle.glass.specs.Calls.{GlassCall, Allowed}
 use Rattle.glass.proofs.DrewTied.{DrewTied, both, untied_drew}
 use Rattle.draft.specs.Draft.{draft_of}
-use Rattle.drawing.specs.Drawing.{framed}
-use Rattle.prompt.specs.Session.{session, drawn}
 use Rattle.prompt.proofs.Ready.{label_cut, label_long, prompt_framed}
 use Rattle.prompt.proofs.state.Prompt.render.Goals as goal
 

@@ -41,10 +41,10 @@ returns g c =
     let e : refusal draw p.label_len w (spare f) 0 ≡ None = subst (λ (n : ℕ). refusal draw p.label_len w n 0 ≡ None) c.spare_left.ensures.value c.in_ok-ready.ensures.refused_exactly in
     let then = drew_then cols row spare tied (reshape w ∷ []) (drawn cols w (session q)) f c.reshape.new.glass h (both cols row spare tied c.reshape.ensures.drew c.reshape.ensures.keeps) (both cols row spare tied c.render.ensures.drew c.render.ensures.keeps) in
     let call = accepts cols row spare tied (resize w) p q f h Done e (record {
-        answered = refl;
-        prompt_after = c.scroll.ensures.after;
-        drew = subst (λ (s : Session). DrewTied cols row spare tied (reshape w ∷ drawn cols w s) f h) c.scroll.ensures.after then;
-      }) in
+      answered = refl;
+      prompt_after = c.scroll.ensures.after;
+      drew = subst (λ (s : Session). DrewTied cols row spare tied (reshape w ∷ drawn cols w s) f h) c.scroll.ensures.after then;
+    }) in
     record {
       one_call = plainly g.G.Font.Font.columns g.G.Glass.row g.G.Glass.spare g.G.Glass.tied call;
       drew = drew_made g.G.Font.Font.columns g.G.Glass.row g.G.Glass.spare g.G.Glass.tied call;
