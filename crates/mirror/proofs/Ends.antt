@@ -1,12 +1,12 @@
 -- What the maker of a buffer knows when its recorder has ended.
-use Rattle.std.proofs.Common.{◌≡◌, ℕ, List, [], ◌∷◌, ◌++◌, drop, Some, Option, sym, ap, ◌∙◌}
+use Rattle.std.proofs.Common.{◌≡◌, ℕ, List, [], ◌∷◌, ◌++◌, drop, Some, None, Ok, Option, sym, refl, ap, ◌∙◌}
 use base.Fml.{GName}
 use Rattle.text.specs.declared.refusal.Refusal.{Refusal}
 use Rattle.glass.specs.Calls.{GlassCall}
 use Rattle.glass.specs.Ties.{StaysTied}
 use Rattle.glass.proofs.Ties.{drop_on}
 use Rattle.recorder.specs.declared.recorder.Recorder.{Recorder}
-use Rattle.recorder.specs.Log.{calls_in, log_of, first_calls, opening}
+use Rattle.recorder.specs.Log.{calls_in, log_of, first_calls, opening, answer}
 use Rattle.recorder.specs.Recorded.{log, tied_of}
 use Rattle.recorder.proofs.Logs.{opening_read}
 
@@ -32,3 +32,8 @@ ends s h buffer line width bytes o ks n l r p t =
       log_is = sym h.reads.0 ∙ ap (λ m. log_of m (calls_in (log h))) (t.same_line ∙ l) ∙ ap (log_of line) calls;
       rest_kept = t.rest_kept ∙ drop_on s.bytes.now bytes s.used h.used t.uses_more r;
     }
+
+-- what is allowed is not refused
+pub answer_allows : (o : Option Refusal) (u : Unit {0}) → Ok u ≡ answer o → o ≡ None
+answer_allows None u e = refl
+answer_allows (Some r) u e = cc

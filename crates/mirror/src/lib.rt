@@ -1,4 +1,6 @@
 // The two glasses side by side: the same calls show the same row on both.
+#![tactic(auto)]
+
 ghost use Rattle.std.specs.Prelude.{◌≡◌, ◌∷◌, ◌++◌, map, length, take, drop, IfOk, Some, None, MatchResult, OnErr};
 ghost use Rattle.glass.specs.Calls.{GlassCall, Obeys, apply_all};
 ghost use Rattle.glass.specs.Row.{blank_row};
