@@ -1,10 +1,8 @@
 -- A text that was decoded into a buffer with room for it stands at the buffer's front.
-use Rattle.std.proofs.Common.{◌≡◌, ℕ, ◌-◌, ◌<◌, ◌≤◌, ltb, List, ◌++◌, length, take, drop, Ok, Result, sym, refl, ap, ◌∙◌, arith}
+use Rattle.std.proofs.Common.{◌≡◌, ℕ, ◌≤◌, List, length, take, drop, Ok, sym, arith}
 use Rattle.std.proofs.lemmas.List.{take_all, take_at}
 use Rattle.std.proofs.lemmas.Bool.{le-ltb}
-use Rattle.text.specs.declared.refusal.Refusal.{Refusal}
 use Rattle.text.specs.Utf8.{characters, counted, overwritten}
-use Rattle.jump.specs.declared.goto.Jump.{Jump}
 use Rattle.jump.specs.Goto.{goes_to}
 use Rattle.console.specs.Typed.{typed_jump, most_characters}
 

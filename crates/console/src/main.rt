@@ -1,5 +1,7 @@
 // The booking console's prompt, as far as it goes: reads a script from its standard input, one call to a line, and prints what
 // each call did. The README describes the script. A line that is empty or begins with # is passed over.
+#![tactic(auto)]
+
 mod editing;
 mod remembering;
 mod showing;

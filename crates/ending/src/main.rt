@@ -1,5 +1,7 @@
 // The smallest host: a prompt is opened, takes a key, is finished, and its text is jumped by. The folder misuse/ has edits of it that
 // the compiler refuses.
+#![tactic(auto)]
+
 use cells::cell_row::CellRow;
 use font::foyer::FoyerFont;
 use jump::goto::Jump;

@@ -1,7 +1,6 @@
-use Rattle.std.proofs.Common.{◌≡◌, ℕ, ◌-◌, length, take, replicate, Ok, sym, ap, ◌∙◌, arith, rules}
+use Rattle.std.proofs.Common.{◌≡◌, ℕ, ◌-◌, take, replicate, sym, ap, ◌∙◌, arith}
 use Rattle.std.proofs.lemmas.List.{length-replicate}
-use Rattle.text.specs.Utf8.{characters, counted}
-use Rattle.jump.specs.Goto.{goes_to}
+use Rattle.text.specs.Utf8.{characters}
 use Rattle.console.proofs.Drafts.{front_is_written, jumps_as_typed}
 use Rattle.console.proofs.jump_by.Goals as goal
 
