@@ -1,4 +1,6 @@
 // Fonts: how many columns a character takes on a row.
+#![tactic(auto)]
+
 ghost use Rattle.std.specs.Prelude.{◌≡◌, ℕ, ◌<◌, ◌≤◌};
 ghost use Rattle.font.specs.declared.Columns.{Columns};
 ghost use Rattle.font.specs.declared.Columns.TheVariants.{NoWidth, One};
