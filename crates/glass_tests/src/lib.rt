@@ -1,4 +1,6 @@
 // Tests of the glasses. They stand apart, so that no glass is proved twice.
+#![tactic(auto)]
+
 ghost use Rattle.glass_tests.specs.Trial.{trial_columns};
 ghost use Rattle.std.proofs.Common.{rules};
 
