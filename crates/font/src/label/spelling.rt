@@ -1,6 +1,6 @@
 // Spelling a label, reading it and cutting it.
 ghost use Rattle.std.specs.Prelude.{◌≡◌, length, take};
-ghost use Rattle.std.specs.List.{AllByRecursion as All};
+ghost use Rattle.std.specs.List.{AllByRecursion};
 ghost use Rattle.font.specs.Labels.{label, Printable};
 ghost use Rattle.font.specs.LabelText.{label_text};
 
@@ -13,7 +13,7 @@ impl Label {
     /// No code past 10FFFF comes here; such a one would show its last six digits.
     pub fn of(code: u32) -> Label
         ensures value { label_text result ≡ label code }
-        ensures printable { All Printable (label_text result) }
+        ensures printable { AllByRecursion Printable (label_text result) }
     {
         let len = label_columns(code);
         // The digits stand after `<`, or after `<U+`.
