@@ -6,7 +6,7 @@ use Rattle.std.proofs.ByRecursion.{All-push, All-take}
 use Rattle.std.proofs.lemmas.List.{append_assoc, append-nil, take_more_set, drop_all, drop-set, length-append, length-drop, length_push, length-set, length-take}
 use Rattle.std.proofs.lemmas.Slice.{take-put_mid}
 use Rattle.std.proofs.lemmas.Bool.Decides.{nat_tests}
-use Rattle.std.specs.List.{AllByRecursion as All}
+use Rattle.std.specs.List.{AllByRecursion}
 use Rattle.font.specs.Labels.{hex_digit, hex, hex_count, has_short_label, label, longest_label, Printable}
 
 pub length_hex : (count n : ℕ) → length (hex count n) ≡ count
@@ -90,21 +90,21 @@ spelled c start len room digits wide starts long writes =
 digit_printable : (d : ℕ) → d < 16 → Printable (hex_digit d)
 digit_printable d h = grind (arith, nat_tests)
 
-hex_printable : (count n : ℕ) → All Printable (hex count n)
+hex_printable : (count n : ℕ) → AllByRecursion Printable (hex count n)
 hex_printable zero n = tt
 hex_printable (suc count) n =
     All-push Printable (hex count (n / 16)) (hex_digit (n % 16)) (hex_printable count (n / 16)) (digit_printable (n % 16) (omega arith))
 
 -- Every character of a label is one of 20 to 7E.
-pub label_printable : (c : ℕ) → All Printable (label c)
+pub label_printable : (c : ℕ) → AllByRecursion Printable (label c)
 label_printable c =
     let end : Printable 0x3E = (omega arith, omega arith) in
-    elim (has_short_label c) as (λ short. All Printable (cond short (short_label c) (long_label c))) [
+    elim (has_short_label c) as (λ short. AllByRecursion Printable (cond short (short_label c) (long_label c))) [
       | true ↦ ((omega arith, omega arith), All-push Printable (hex 2 c) 0x3E (hex_printable 2 c) end)
       | false ↦ ((omega arith, omega arith), ((omega arith, omega arith), ((omega arith, omega arith), All-push Printable (hex (hex_count c) c) 0x3E (hex_printable (hex_count c) c) end)))
     ]
 
-pub printable_scalars : (text : List ℕ) → All Printable text → scalars text ≡ true
+pub printable_scalars : (text : List ℕ) → AllByRecursion Printable text → scalars text ≡ true
 printable_scalars [] each = refl
 printable_scalars (c ∷ cs) each = let rest = printable_scalars cs each.1 in grind (arith, nat_tests)
 

@@ -2,7 +2,7 @@
 use Rattle.std.proofs.Common.{◌≡◌, ℕ, ◌+◌, ◌*◌, ◌≤◌, min, List, [], ◌∷◌, ◌++◌, length, take, drop, sym, refl, ap, ◌∙◌, arith}
 use Rattle.std.proofs.ByRecursion.{All-take}
 use Rattle.std.proofs.lemmas.List.{take-append-drop, take-take, length-take}
-use Rattle.std.specs.List.{AllByRecursion as All}
+use Rattle.std.specs.List.{AllByRecursion}
 use Rattle.font.specs.declared.Columns.{Columns}
 use Rattle.font.specs.declared.Columns.TheVariants.{NoWidth, Zero, One, Two}
 use Rattle.font.specs.Labels.{columns_by, char_columns, text_columns, between, label, longest_label, Printable}
@@ -54,7 +54,7 @@ module _ (columns : ℕ → Columns) where
 
   -- With the font's law for 20 to 7E, a text of those takes a column for each character.
   module _ (ascii : (c : ℕ) → 0x20 ≤ c → c ≤ 0x7E → columns c ≡ One) where
-    pub printable_columns : (text : List ℕ) → All Printable text → text_columns columns text ≡ length text
+    pub printable_columns : (text : List ℕ) → AllByRecursion Printable text → text_columns columns text ≡ length text
     printable_columns [] each = refl
     printable_columns (c ∷ cs) each =
         let first : char_columns columns c ≡ 1 = ap (λ w. columns_by w c) (ascii c each.0.0 each.0.1) in

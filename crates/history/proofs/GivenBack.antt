@@ -2,7 +2,7 @@
 use Rattle.std.proofs.Common.{◌≡◌, ℕ, ◌+◌, ◌*◌, ◌/◌, ◌%◌, ◌<◌, ◌≤◌, true, false, eqb, ◌⊎◌, List, [], ◌∷◌, ◌++◌, length, Some, sym, refl, ap, ◌∙◌, subst, inl, inr, append-nil, arith}
 use lib.Utf8.{scalar, scalars, encode, encodes, low_scalar}
 use Rattle.std.specs.Option.{option_to_list}
-use Rattle.std.specs.List.{AllByRecursion as All}
+use Rattle.std.specs.List.{AllByRecursion}
 use Rattle.std.proofs.ByRecursion.{All-append}
 use Rattle.std.proofs.lemmas.List.{length-append}
 use Rattle.std.proofs.lemmas.Bool.{and_parts, and_from, cases_Bool, eqb-true, eqb-false, cond-true, cond-false, le-leb}
@@ -58,17 +58,17 @@ record Saved (c : ℕ) (bytes : List ℕ) : Type 0 where
   are_scalars : scalars chars ≡ true
   encoded : bytes ≡ encodes chars
   load_again : (rest : List ℕ) → load_from Plain (chars ++ rest) ≡ c ∷ load_from Plain rest
-  clean : All Clean bytes
+  clean : AllByRecursion Clean bytes
   some : 0 < length bytes
   few : length bytes ≤ 4
 
-ascii_is : (bs : List ℕ) → All (λ b. b < 0x80) bs → (scalars bs ≡ true) × (bs ≡ encodes bs)
+ascii_is : (bs : List ℕ) → AllByRecursion (λ b. b < 0x80) bs → (scalars bs ≡ true) × (bs ≡ encodes bs)
 ascii_is [] h = (refl, refl)
 ascii_is (b ∷ bs) (l, h) =
     let on = ascii_is bs h in
     (and_from (scalar b) (scalars bs) (low_scalar b (omega arith)) on.0, (λ i. sym (encode_ascii b l) i ++ on.1 i))
 
-sequence_clean : {s : List ℕ} {c : ℕ} → Sequence s c → 0x20 ≤ c → (c ≡ 0x7F → ⊥) → All Clean s
+sequence_clean : {s : List ℕ} {c : ℕ} → Sequence s c → 0x20 ≤ c → (c ≡ 0x7F → ⊥) → AllByRecursion Clean s
 sequence_clean (single h) low other = ((low, other), tt)
 sequence_clean (pair h) low other = ((omega arith, λ e. omega arith), ((omega arith, λ e. omega arith), tt))
 sequence_clean (triple h) low other = ((omega arith, λ e. omega arith), ((omega arith, λ e. omega arith), ((omega arith, λ e. omega arith), tt)))
@@ -119,7 +119,7 @@ record SavedText (text bytes : List ℕ) : Type 0 where
   are_scalars : scalars chars ≡ true
   encoded : bytes ≡ encodes chars
   load_again : load_from Plain chars ≡ text
-  clean : All Clean bytes
+  clean : AllByRecursion Clean bytes
   short : length bytes ≤ 4 * length text
   long : length text ≤ length bytes
 
@@ -147,7 +147,7 @@ gives_back text h =
     let saved = text_saved text h in
     ap (λ l. load_from Plain (characters l)) saved.encoded ∙ ap (load_from Plain) (chars-encodes saved.chars saved.are_scalars) ∙ saved.load_again
 
-pub spelling_clean : (text : List ℕ) → scalars text ≡ true → All Clean (spell text)
+pub spelling_clean : (text : List ℕ) → scalars text ≡ true → AllByRecursion Clean (spell text)
 spelling_clean text h = (text_saved text h).clean
 
 pub spelling_not_empty : (text : List ℕ) → scalars text ≡ true → 0 < length text → 0 < length (spell text)

@@ -4,7 +4,7 @@ use Rattle.std.proofs.Common.{◌≡◌, ◌<◌, ◌≤◌, List, [], ◌∷◌
 use native.Mathlib.Bridge.{le_prop}
 use native.Mathlib.Nat.{ℕ_set}
 use lib.Seq.{take-set-lt}
-use Rattle.std.specs.List.{AllByRecursion as All}
+use Rattle.std.specs.List.{AllByRecursion}
 use Rattle.std.proofs.lemmas.List.{get_or-map, get_or-take, length-map, length-take-le, map-set, set-get_or}
 use Rattle.draft.specs.declared.state.PromptState.{PromptState}
 use Rattle.draft.specs.Draft.{Draft, draft_of, Sound}
@@ -16,7 +16,7 @@ use Rattle.history.specs.Session.{session, session_of, empty_draft, draft_in_han
 pub drafts_counted : (h : PromptHistory) → length (session_of h).drafts ≡ h.count
 drafts_counted h = length-map (take h.count h.entries) draft_of ∙ length-take-le h.count h.entries (omega (arith, h.ok))
 
-all_sound : (xs : List PromptState) → All Sound (map draft_of xs)
+all_sound : (xs : List PromptState) → AllByRecursion Sound (map draft_of xs)
 all_sound [] = tt
 all_sound (x ∷ xs) = (drafts_are_sound x, all_sound xs)
 

@@ -1,6 +1,6 @@
 -- Lines that were written are read again.
 use Rattle.std.proofs.Common.{◌≡◌, ℕ, ◌-◌, ◌<◌, ◌≤◌, true, false, eqb, List, [], ◌∷◌, ◌++◌, map, length, get_or, take, drop, filter, sym, refl, ap, ◌∙◌, ⊎_elim, append_assoc, append-nil, arith}
-use Rattle.std.specs.List.{AllByRecursion as All}
+use Rattle.std.specs.List.{AllByRecursion}
 use Rattle.std.proofs.lemmas.List.Elements.{filter-append}
 use Rattle.std.proofs.ByRecursion.{All-get_or, All-append, All-drop, all_kept_by, kept_by_passes}
 use Rattle.std.proofs.lemmas.Slice.Eq.{bytes_eq-Decides}
@@ -30,10 +30,10 @@ proper_again : (line : List ℕ) → Proper line → without_return line ≡ lin
 proper_again line (none, some) kept =
     lines_laws.ended line [] none ∙ (λ i. unless_empty (kept i) ++ no_lines i) ∙ append-nil (unless_empty line) ∙ one_if_not_empty line some
 
-clean_proper : (line : List ℕ) → All Clean line → 0 < length line → Proper line
+clean_proper : (line : List ℕ) → AllByRecursion Clean line → 0 < length line → Proper line
 clean_proper line clean some = (λ k l e. omega (arith, (All-get_or Clean line k 0 l clean).0), some)
 
-clean_kept : (line : List ℕ) → All Clean line → 0 < length line → without_return line ≡ line
+clean_kept : (line : List ℕ) → AllByRecursion Clean line → 0 < length line → without_return line ≡ line
 clean_kept line clean some =
     cond-false _ _ _ (ne_eqb (get_or line (length line - 1) 0) carriage_return (λ e. omega (arith, (All-get_or Clean line (length line - 1) 0 (omega arith) clean).0)))
 
@@ -83,7 +83,7 @@ not_twice (c ∷ cs) history good =
     or_right _ _ (ap (is_last (spell (c ∷ cs))) (new_line_last (c ∷ cs) history good (omega arith)) ∙ last_is_last (spell (c ∷ cs)) (readable_lines (ended_lines (last_of most_kept (readable_lines history)))))
 
 -- What cutting gives is proper.
-proper_if_some : (line : List ℕ) → NoNewline line → All Proper (unless_empty line)
+proper_if_some : (line : List ℕ) → NoNewline line → AllByRecursion Proper (unless_empty line)
 proper_if_some [] none = tt
 proper_if_some (b ∷ bs) none = ((none, omega arith), tt)
 
@@ -101,26 +101,26 @@ no_newline_pushed begun b none other k h e =
     eqb-false b newline other (sym (get_or_push begun b 0 k here) ∙ e))
     (cases_lt k (length begun))
 
-lines_proper : (begun bytes : List ℕ) → NoNewline begun → All Proper (lines_after begun bytes)
+lines_proper : (begun bytes : List ℕ) → NoNewline begun → AllByRecursion Proper (lines_after begun bytes)
 lines_proper begun [] none = proper_if_some begun none
 lines_proper begun (b ∷ bs) none =
-    cond_both (eqb b newline) _ _ (All Proper)
+    cond_both (eqb b newline) _ _ (AllByRecursion Proper)
     (λ _. All-append Proper (unless_empty (without_return begun)) (lines_after [] bs) (proper_if_some (without_return begun) shorter) (lines_proper [] bs (λ k h. absurd (omega arith))))
     (λ other. lines_proper (begun ++ b ∷ []) bs (no_newline_pushed begun b none other))
   where
     shorter : NoNewline (without_return begun)
     shorter = cond_both (eqb (get_or begun (length begun - 1) 0) carriage_return) (take (length begun - 1) begun) begun NoNewline (λ _. no_newline_in_front begun (length begun - 1) none) (λ _. none)
 
-proper_all_again : (ls : List (List ℕ)) → All Proper ls → All (λ l. without_return l ≡ l) ls → lines (ended_lines ls) ≡ ls
+proper_all_again : (ls : List (List ℕ)) → AllByRecursion Proper ls → AllByRecursion (λ l. without_return l ≡ l) ls → lines (ended_lines ls) ≡ ls
 proper_all_again [] proper kept = no_lines
 proper_all_again (l ∷ ls) (proper, others) (kept, more) =
     lines_after_one l (ended_lines ls) ∙ (λ i. proper_again l proper kept i ++ proper_all_again ls others more i)
 
-all_kept : (ls : List (List ℕ)) → All (λ l. readable l ≡ true) ls → filter readable ls ≡ ls
+all_kept : (ls : List (List ℕ)) → AllByRecursion (λ l. readable l ≡ true) ls → filter readable ls ≡ ls
 all_kept [] good = refl
 all_kept (l ∷ ls) (good, more) = cond-true (readable l) _ _ good ∙ ap (λ m. l ∷ m) (all_kept ls more)
 
-pub read_again : (text history : List ℕ) → DraftText text → 0 < length text → All (λ l. without_return l ≡ l) (last_of most_kept (readable_lines history))
+pub read_again : (text history : List ℕ) → DraftText text → 0 < length text → AllByRecursion (λ l. without_return l ≡ l) (last_of most_kept (readable_lines history))
     → readable_lines (written text history) ≡ last_of most_kept (readable_lines history) ++ spell text ∷ []
 unfolding readable_lines lines
 read_again text history good some kept =

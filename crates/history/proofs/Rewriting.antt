@@ -1,7 +1,7 @@
 -- Lines are written one after another.
 use Rattle.std.proofs.Common.{◌≡◌, ℕ, suc, ◌+◌, ◌-◌, ◌*◌, ◌<◌, ◌≤◌, true, false, cond, eqb, leb, List, [], ◌∷◌, ◌++◌, length, get_or, take, drop, set, Ok, Err, sym, refl, ap, ◌∙◌, ⊎_elim, append_assoc, append-nil, arith}
 use borrow.Rule.Slice.PartMut.{put_mid}
-use Rattle.std.specs.List.{AllByRecursion as All}
+use Rattle.std.specs.List.{AllByRecursion}
 use Rattle.std.specs.Str.{bytes_eq}
 use Rattle.std.proofs.ByRecursion.{kept_by_passes}
 use Rattle.std.proofs.lemmas.List.{length-append, length_push, take_at, drop_at, drop-drop, drop_more, set_at, take_all, take-append-drop, length-take-le, flat_map_more, nil_from_length, length-drop}
@@ -20,7 +20,7 @@ readable_short : (line : List ℕ) → readable line ≡ true → length line �
 unfolding readable
 readable_short line good = leb-true _ _ (and_parts _ (loadable line) good).0
 
-pub short_ended : (ls : List (List ℕ)) → All (λ l. readable l ≡ true) ls → length (ended_lines ls) ≤ (longest_line + 1) * length ls
+pub short_ended : (ls : List (List ℕ)) → AllByRecursion (λ l. readable l ≡ true) ls → length (ended_lines ls) ≤ (longest_line + 1) * length ls
 short_ended [] h = omega arith
 short_ended (l ∷ ls) (good, h) =
     omega (arith, length-append (ended l) (ended_lines ls), length_push l newline, readable_short l good, short_ended ls h)

@@ -1,7 +1,7 @@
 -- What saving, loading and writing come to together.
 use Rattle.std.specs.Prelude.{◌≡◌, ℕ, ◌<◌, ◌≤◌, true, List, [], ◌∷◌, ◌++◌, length, ◌≢◌}
 use Rattle.std.proofs.Math.Utf8.{scalars}
-use Rattle.std.specs.List.{AllByRecursion as All}
+use Rattle.std.specs.List.{AllByRecursion}
 use Rattle.draft.specs.Line.{capacity}
 use Rattle.history.specs.Limits.{most_kept, longest_written}
 use Rattle.history.specs.Lines.{lines, without_return}
@@ -22,7 +22,7 @@ pub record SavingLaws : Type 0 where
   -- loading a saved text gives it back
   pub gives_back : (text : List ℕ) → scalars text ≡ true → loaded (spell text) ≡ text
   -- a saved line holds no control character
-  pub is_clean : (text : List ℕ) → scalars text ≡ true → All Clean (spell text)
+  pub is_clean : (text : List ℕ) → scalars text ≡ true → AllByRecursion Clean (spell text)
   -- a saved draft is readable
   pub is_readable : (text : List ℕ) → DraftText text → readable (spell text) ≡ true
   -- and, if it is not empty, is one line
@@ -38,5 +38,5 @@ pub record WritingLaws : Type 0 where
   -- a draft that was written is not added again
   pub not_twice : (text history : List ℕ) → DraftText text → nothing_to_add text (written text history) ≡ true
   -- What is written is read again: the lines that were kept, and the new one. Only a line that ends in 0D is read without it.
-  pub read_again : (text history : List ℕ) → DraftText text → 0 < length text → All (λ l. without_return l ≡ l) (last_of most_kept (readable_lines history))
+  pub read_again : (text history : List ℕ) → DraftText text → 0 < length text → AllByRecursion (λ l. without_return l ≡ l) (last_of most_kept (readable_lines history))
       → readable_lines (written text history) ≡ last_of most_kept (readable_lines history) ++ spell text ∷ []

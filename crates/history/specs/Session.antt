@@ -1,6 +1,6 @@
 -- What a history in memory means: its drafts, and which of them is in hand.
 use Rattle.std.specs.Prelude.{ℕ, ◌+◌, ◌-◌, ◌<◌, ◌≤◌, cond, List, [], ◌∷◌, ◌++◌, map, length, take, Ok, Err, Result, nat_le, nat_lt, slice_index_or, slice_set}
-use Rattle.std.specs.List.{AllByRecursion as All}
+use Rattle.std.specs.List.{AllByRecursion}
 use Rattle.text.specs.declared.refusal.Refusal.{Refusal}
 use Rattle.text.specs.declared.refusal.Refusal.TheVariants.{HistoryTooLong}
 use Rattle.draft.specs.declared.action.DisplayAction.{DisplayAction}
@@ -70,7 +70,7 @@ told (Err refusal) = Err refusal
 pub record SoundSession (s : Session) : Type 0 where
   pub hand_within : s.hand < length s.drafts
   pub few_enough : length s.drafts ≤ most_drafts
-  pub drafts_are_sound : All Sound s.drafts
+  pub drafts_are_sound : AllByRecursion Sound s.drafts
 
 abbrev pub SessionsAreSound : Type 0
 SessionsAreSound = (h : PromptHistory) → SoundSession (session_of h)

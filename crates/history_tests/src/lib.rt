@@ -1,4 +1,6 @@
 // Tests of history: bytes in, drafts, bytes out.
+#![tactic(auto)]
+
 #[cfg(test)]
 mod loading;
 #[cfg(test)]

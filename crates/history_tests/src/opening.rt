@@ -70,3 +70,16 @@ fn the_draft_in_hand_is_edited(rt: HostRuntime) -> Result<(), Fail> {
     assert!(rt; reads(&history, b"one"));
     Ok(())
 }
+
+#[test]
+fn the_draft_in_hand_takes_bytes(rt: HostRuntime) -> Result<(), Fail> {
+    let mut history = PromptHistory::open(b"one\ntwo\n")?;
+    assert!(rt; history.previous() == DisplayAction::Redraw);
+    assert_eq!(rt; history.insert_bytes(b"!")?, DisplayAction::Redraw);
+    assert!(rt; reads(&history, b"two!"));
+    assert!(rt; history.next() == DisplayAction::Redraw);
+    assert!(rt; reads(&history, b""));
+    assert_eq!(rt; steps_back(&mut history), 2);
+    assert!(rt; reads(&history, b"one"));
+    Ok(())
+}
