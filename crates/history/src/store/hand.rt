@@ -61,8 +61,8 @@ impl PromptHistory {
         ensures after { OnOk result (session_of self.new ≡ with_draft (inserting (characters bytes.now) (draft_in_hand (session_of self.old))) (session_of self.old)) }
         ensures unchanged_if_refused { OnErr result (self.new ≡ self.old) }
     {
-        let i = self.active_index;
+        let hand = self.active_index;
         let entries = &mut self.entries;
-        entries[i].insert_bytes(bytes)
+        entries[hand].insert_bytes(bytes)
     }
 }
