@@ -1,6 +1,6 @@
 -- How many marks a row has: as many as its table, since none stands past the width.
 use Rattle.std.proofs.Common.{◌≡◌, ℕ, zero, suc, ◌+◌, ◌<◌, ◌≤◌, Bool, true, ltb, List, [], ◌∷◌, ◌++◌, length, take, drop, sum_by, filter, sym, refl, ap, ◌∙◌, subst, ⊎_elim, arith}
-use Rattle.std.specs.List.{AllByRecursion as All}
+use Rattle.std.specs.List.{AllByRecursion}
 use Rattle.std.proofs.lemmas.List.{length-map}
 use Rattle.std.proofs.lemmas.List.FromFn.{sum_by-map-range_with_len_more}
 use Rattle.std.proofs.ByRecursion.{All-append, All-take, All-drop}
@@ -11,7 +11,7 @@ use Rattle.cells.specs.declared.table.Mark.{Mark}
 use Rattle.cells.specs.Slots.{code_of, stands_at, all_before, cell_at, cells_of}
 
 abbrev pub Before : ℕ → List Mark → Type 0
-Before k ms = All (λ (m : Mark). m.column < k) ms
+Before k ms = AllByRecursion (λ (m : Mark). m.column < k) ms
 
 pub before_from_test : (k : ℕ) (ms : List Mark) → all_before k ms ≡ true → Before k ms
 before_from_test k [] e = tt

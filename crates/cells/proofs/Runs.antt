@@ -1,6 +1,6 @@
 -- A table of marks in the order of columns: where a run starts, one more at its end, the run taken out.
 use Rattle.std.proofs.Common.{◌≡◌, ℕ, zero, suc, ◌+◌, ◌-◌, ◌<◌, ◌≤◌, Bool, true, false, List, [], ◌∷◌, ◌++◌, map, length, get_or, take, drop, filter, sym, refl, ap, ◌∙◌, subst, ⊎_elim, add-zero, arith}
-use Rattle.std.specs.List.{between, AllByRecursion as All}
+use Rattle.std.specs.List.{between, AllByRecursion}
 use Rattle.std.proofs.lemmas.List.{length-take, length-drop, get_or-take, get_or-drop, map-append, append-nil, take-append-drop, drop_more, drop-take, take-take}
 use Rattle.std.proofs.lemmas.List.Edits.{split_between}
 use Rattle.std.proofs.lemmas.Slice.{between_is}
@@ -22,7 +22,7 @@ pub test_from_rises : (k : ℕ) (ms : List Mark) → Rises k ms → rises k ms �
 test_from_rises k [] h = refl
 test_from_rises k (m ∷ ms) h = and_from _ _ (le-leb k m.column h.0) (test_from_rises m.column ms h.1)
 
-pub rises_above : (k : ℕ) (ms : List Mark) → Rises k ms → All (λ (m : Mark). k ≤ m.column) ms
+pub rises_above : (k : ℕ) (ms : List Mark) → Rises k ms → AllByRecursion (λ (m : Mark). k ≤ m.column) ms
 rises_above k [] h = tt
 rises_above k (m ∷ ms) h = (h.0, All-weaker (λ (n : Mark). m.column ≤ n.column) (λ (n : Mark). k ≤ n.column) (λ n l. let a = h.0 in omega arith) ms (rises_above m.column ms h.1))
 
@@ -30,7 +30,7 @@ rises_lower : (j k : ℕ) (ms : List Mark) → j ≤ k → Rises k ms → Rises 
 rises_lower j k [] l h = tt
 rises_lower j k (m ∷ ms) l h = (let a = h.0 in omega arith, h.1)
 
-rises_raise : (j k : ℕ) (ms : List Mark) → All (λ (m : Mark). k ≤ m.column) ms → Rises j ms → Rises k ms
+rises_raise : (j k : ℕ) (ms : List Mark) → AllByRecursion (λ (m : Mark). k ≤ m.column) ms → Rises j ms → Rises k ms
 rises_raise j k [] a h = tt
 rises_raise j k (m ∷ ms) a h = (a.0, h.1)
 
@@ -44,7 +44,7 @@ rises_drop zero k ms h = h
 rises_drop (suc n) k [] h = tt
 rises_drop (suc n) k (m ∷ ms) h = rises_lower k m.column (drop n ms) h.0 (rises_drop n m.column ms h.1)
 
-rises_join : (k n : ℕ) (xs ys : List Mark) → k ≤ n → Rises k xs → All (λ (m : Mark). m.column ≤ n) xs → Rises n ys → Rises k (xs ++ ys)
+rises_join : (k n : ℕ) (xs ys : List Mark) → k ≤ n → Rises k xs → AllByRecursion (λ (m : Mark). m.column ≤ n) xs → Rises n ys → Rises k (xs ++ ys)
 rises_join k n [] ys l h a r = rises_lower k n ys l r
 rises_join k n (x ∷ xs) ys l h a r = (h.0, rises_join x.column n xs ys a.0 h.1 a.1 r)
 
@@ -57,15 +57,15 @@ rises_inserted ms k c r e s =
     (All-weaker (λ (m : Mark). m.column < k + 1) (λ (m : Mark). m.column ≤ k) (λ m l. omega arith) (take r ms) s.before)
     (omega arith, rises_raise 0 k (drop r ms) (All-weaker (λ (m : Mark). k + 1 ≤ m.column) (λ (m : Mark). k ≤ m.column) (λ m l. omega arith) (drop r ms) s.after) (rises_drop r 0 ms h)))
 
-kept_all : {X : Type 0} (p : X → Bool) (xs : List X) → All (λ x. p x ≡ true) xs → filter p xs ≡ xs
+kept_all : {X : Type 0} (p : X → Bool) (xs : List X) → AllByRecursion (λ x. p x ≡ true) xs → filter p xs ≡ xs
 kept_all p [] a = refl
 kept_all p (x ∷ xs) a = let e = a.0 in rw e (ap (λ ys. x ∷ ys) (kept_all p xs a.1))
 
-kept_no : {X : Type 0} (p : X → Bool) (xs : List X) → All (λ x. p x ≡ false) xs → filter p xs ≡ []
+kept_no : {X : Type 0} (p : X → Bool) (xs : List X) → AllByRecursion (λ x. p x ≡ false) xs → filter p xs ≡ []
 kept_no p [] a = refl
 kept_no p (x ∷ xs) a = let e = a.0 in rw e (kept_no p xs a.1)
 
-pub inserted_here : (k c : ℕ) (xs ys : List Mark) → All (λ (m : Mark). k + 1 ≤ m.column) ys → marks_of k (xs ++ (record { column = k; code = c } ∷ ys)) ≡ marks_of k (xs ++ ys) ++ (c ∷ [])
+pub inserted_here : (k c : ℕ) (xs ys : List Mark) → AllByRecursion (λ (m : Mark). k + 1 ≤ m.column) ys → marks_of k (xs ++ (record { column = k; code = c } ∷ ys)) ≡ marks_of k (xs ++ ys) ++ (c ∷ [])
 inserted_here k c xs ys a =
     let e = eq-eqb k k refl in
     let n = kept_no (stands_at k) ys (All-weaker (λ (m : Mark). k + 1 ≤ m.column) (λ (m : Mark). stands_at k m ≡ false) (λ m l. ne_eqb m.column k (λ s. omega arith)) ys a) in
@@ -74,18 +74,18 @@ inserted_here k c xs ys a =
 pub inserted_elsewhere : (k j c : ℕ) (xs ys : List Mark) → (j ≡ k → ⊥) → marks_of j (xs ++ (record { column = k; code = c } ∷ ys)) ≡ marks_of j (xs ++ ys)
 inserted_elsewhere k j c xs ys n = let e = ne_eqb k j (λ s. n (sym s)) in simp (filter-append, map-append, e)
 
-all_two : {X : Type 0} (P Q R : X → Type 0) → ((x : X) → P x → Q x → R x) → (xs : List X) → All P xs → All Q xs → All R xs
+all_two : {X : Type 0} (P Q R : X → Type 0) → ((x : X) → P x → Q x → R x) → (xs : List X) → AllByRecursion P xs → AllByRecursion Q xs → AllByRecursion R xs
 all_two P Q R f [] a b = tt
 all_two P Q R f (x ∷ xs) a b = (f x a.0 b.0, all_two P Q R f xs a.1 b.1)
 
 -- between where two neighbours start stand the marks of the first
-run_is : (ms : List Mark) (k a b : ℕ) → StartsAt k a ms → StartsAt (k + 1) b ms → a ≤ b → All (λ (m : Mark). m.column ≡ k) (between a b ms)
+run_is : (ms : List Mark) (k a b : ℕ) → StartsAt k a ms → StartsAt (k + 1) b ms → a ≤ b → AllByRecursion (λ (m : Mark). m.column ≡ k) (between a b ms)
 run_is ms k a b s t l =
     let q : a + (b - a) ≡ b = omega arith in
     let e = sym (drop-take a (b - a) ms) ∙ ap (λ n. drop a (take n ms)) q in
     all_two (λ (m : Mark). k ≤ m.column) (λ (m : Mark). m.column < k + 1) (λ (m : Mark). m.column ≡ k) (λ m u v. omega arith) (between a b ms)
     (All-take (λ (m : Mark). k ≤ m.column) (b - a) (drop a ms) s.after)
-    (subst (All (λ (m : Mark). m.column < k + 1)) (sym e) (All-drop (λ (m : Mark). m.column < k + 1) a (take b ms) t.before))
+    (subst (AllByRecursion (λ (m : Mark). m.column < k + 1)) (sym e) (All-drop (λ (m : Mark). m.column < k + 1) a (take b ms) t.before))
 
 -- the run taken out is a filter
 pub run_removed : (ms : List Mark) (k a b : ℕ) → StartsAt k a ms → StartsAt (k + 1) b ms → a ≤ b → take a ms ++ drop b ms ≡ filter (not_at k) ms
@@ -105,7 +105,7 @@ rises_removed ms k a b e s t =
     (rises_raise 0 k (drop b ms) (All-weaker (λ (m : Mark). k + 1 ≤ m.column) (λ (m : Mark). k ≤ m.column) (λ m l. omega arith) (drop b ms) t.after) (rises_drop b 0 ms h)))
 
 -- the search looked at a mark to the left of the column: all before it are too
-pub left_of_it : (n k c : ℕ) (ms : List Mark) (d : Mark) → Rises k ms → n < length ms → (get_or ms n d).column < c → All (λ (m : Mark). m.column < c) (take (n + 1) ms)
+pub left_of_it : (n k c : ℕ) (ms : List Mark) (d : Mark) → Rises k ms → n < length ms → (get_or ms n d).column < c → AllByRecursion (λ (m : Mark). m.column < c) (take (n + 1) ms)
 left_of_it n k c [] d h l b = absurd (omega arith)
 left_of_it zero k c (m ∷ ms) d h l b = (b, tt)
 left_of_it (suc n) k c (m ∷ ms) d h l b =
@@ -114,11 +114,11 @@ left_of_it (suc n) k c (m ∷ ms) d h l b =
     rw more (omega arith, left_of_it n m.column c ms d h.1 (omega arith) b)
 
 -- at a mark that is not to the left of it: none after that one is either
-pub right_of_it : (n k c : ℕ) (ms : List Mark) (d : Mark) → Rises k ms → n < length ms → c ≤ (get_or ms n d).column → All (λ (m : Mark). c ≤ m.column) (drop n ms)
+pub right_of_it : (n k c : ℕ) (ms : List Mark) (d : Mark) → Rises k ms → n < length ms → c ≤ (get_or ms n d).column → AllByRecursion (λ (m : Mark). c ≤ m.column) (drop n ms)
 right_of_it n k c ms d h l b =
     let q = drop_more ms n d l in
     let p = subst (Rises k) q (rises_drop n k ms h) in
-    subst (All (λ (m : Mark). c ≤ m.column)) (sym q)
+    subst (AllByRecursion (λ (m : Mark). c ≤ m.column)) (sym q)
     (b, All-weaker (λ (m : Mark). (get_or ms n d).column ≤ m.column) (λ (m : Mark). c ≤ m.column) (λ m a. omega arith) (drop (n + 1) ms) (rises_above (get_or ms n d).column (drop (n + 1) ms) p.1))
 
 pub starts_in_order : (ms : List Mark) (k a b : ℕ) → a ≤ length ms → StartsAt k a ms → StartsAt (k + 1) b ms → a ≤ b

@@ -1,7 +1,7 @@
 -- The cells of a cell row, after one slot or one mark.
 use Rattle.std.proofs.Common.{◌≡◌, ℕ, zero, suc, ◌+◌, ◌-◌, ◌<◌, ◌≤◌, Bool, cond, List, [], ◌∷◌, ◌++◌, length, get_or, take, set, replicate, Some, filter, sym, refl, ap, ◌∙◌, ⊎_elim, sub-one, arith, rules}
 use borrow.Rule.Slice.PartMut.{put_mid}
-use Rattle.std.specs.List.{between, AllByRecursion as All}
+use Rattle.std.specs.List.{between, AllByRecursion}
 use Rattle.std.proofs.lemmas.List.{places, length-set, get_or-set_same, get_or-set_other, length-replicate, get_or-replicate, length-append, length-take, length-drop}
 use Rattle.std.proofs.lemmas.List.FromFn.{length-map-range_with_len, get_or-map-range_with_len, fill_by_all}
 use Rattle.std.proofs.lemmas.Bool.{cases_eq, cases_lt}
@@ -48,7 +48,7 @@ put_slot slots w ms k s h l =
     (sym (cell_same (ap (λ (x : Slot). x.ink) e) (ap (λ (x : Slot). x.pen) e) (removed_here k ms)))
     (λ j n. let f = get_or-set_other slots k j s blank_slot n in sym (cell_same (ap (λ (x : Slot). x.ink) f) (ap (λ (x : Slot). x.pen) f) (removed_elsewhere k j ms n)))
 
-pub join_mark : (slots : List Slot) (w : ℕ) (xs ys : List Mark) (k c : ℕ) → k < w → All (λ (m : Mark). k + 1 ≤ m.column) ys
+pub join_mark : (slots : List Slot) (w : ℕ) (xs ys : List Mark) (k c : ℕ) → k < w → AllByRecursion (λ (m : Mark). k + 1 ≤ m.column) ys
     → cells_of slots w (xs ++ (record { column = k; code = c } ∷ ys)) ≡ set (cells_of slots w (xs ++ ys)) k (with_mark c (get_or (cells_of slots w (xs ++ ys)) k blank_cell))
 join_mark slots w xs ys k c h a =
     one_column slots w (xs ++ (record { column = k; code = c } ∷ ys)) slots (xs ++ ys) k (with_mark c (get_or (cells_of slots w (xs ++ ys)) k blank_cell)) h

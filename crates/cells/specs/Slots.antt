@@ -1,6 +1,6 @@
 -- What the slots and the table of marks of a cell row show.
 use Rattle.std.specs.Prelude.{ℕ, ◌<◌, ◌≤◌, Bool, true, not, ◌&&◌, List, [], ◌∷◌, map, take, drop, filter, ◌==◌, nat_le, nat_lt, slice_index_or}
-use Rattle.std.specs.List.{AllByRecursion as All, range_with_len}
+use Rattle.std.specs.List.{AllByRecursion, range_with_len}
 use Rattle.glass.specs.declared.Pen.{Pen}
 use Rattle.glass.specs.Row.{Row, Cell, blank, plain_pen}
 use Rattle.cells.specs.declared.table.Slot.{Slot}
@@ -35,8 +35,8 @@ all_before k (m ∷ ms) = nat_lt m.column k && all_before k ms
 
 -- the marks to the left of column k are the first r
 pub record StartsAt (k r : ℕ) (ms : List Mark) : Type 0 where
-  pub before : All (λ m. m.column < k) (take r ms)
-  pub after : All (λ m. k ≤ m.column) (drop r ms)
+  pub before : AllByRecursion (λ m. m.column < k) (take r ms)
+  pub after : AllByRecursion (λ m. k ≤ m.column) (drop r ms)
 
 abbrev pub blank_slot : Slot
 blank_slot = record { ink = blank; pen = plain_pen }

@@ -1,5 +1,5 @@
 use Rattle.std.proofs.Common.{◌≡◌, ◌+◌, ◌-◌, ◌/◌, ◌≤◌, take, drop, sym, ap, subst, arith}
-use Rattle.std.specs.List.{AllByRecursion as All}
+use Rattle.std.specs.List.{AllByRecursion}
 use Rattle.std.proofs.lemmas.List.{get_or-take, length-take, drop_all}
 use Rattle.cells.specs.declared.table.Mark.{Mark}
 use Rattle.cells.proofs.Runs.{rises_from_test, left_of_it, right_of_it}
@@ -8,7 +8,7 @@ use Rattle.cells.proofs.table.start.Goals as goal
 pub loop-low-init : goal.loop-low-init
 loop-low-init c =
     let ms = take c.args.count c.args.marks.now in
-    (omega arith, omega arith, tt, subst (All (λ (m : Mark). c.args.column ≤ m.column)) (sym (drop_all c.args.count ms (simp length-take (omega arith)))) tt)
+    (omega arith, omega arith, tt, subst (AllByRecursion (λ (m : Mark). c.args.column ≤ m.column)) (sym (drop_all c.args.count ms (simp length-take (omega arith)))) tt)
 
 pub loop-low-preserved-then-marks-middle : goal.loop-low-preserved-then-marks-middle
 loop-low-preserved-then-marks-middle c =
@@ -34,6 +34,6 @@ returns c =
     let ms = take c.args.count c.args.marks.now in
     let same : c.loop-low.high ≡ c.loop-low.low = omega arith in
     record {
-      starts = record { before = i.2; after = subst (λ n. All (λ (m : Mark). c.args.column ≤ m.column) (drop n ms)) same i.3 };
+      starts = record { before = i.2; after = subst (λ n. AllByRecursion (λ (m : Mark). c.args.column ≤ m.column) (drop n ms)) same i.3 };
       within = omega arith;
     }
