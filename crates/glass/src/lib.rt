@@ -1,6 +1,8 @@
 // A glass: one row of a screen, and the calls that draw on it.
 // What a glass shows is its row: cells, a pen and the column of the cursor. Its spare is what it can still pay: each call
 // has a cost, and is refused where the spare is below it.
+#![tactic(auto)]
+
 ghost use Rattle.std.specs.Prelude.{◌≡◌, ℕ, ◌∷◌};
 ghost use Rattle.glass.specs.Row.{Row, Showable, width_of};
 ghost use Rattle.glass.specs.Calls.{GlassCall, Obeys};

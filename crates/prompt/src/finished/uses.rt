@@ -51,6 +51,6 @@ impl FinishedText {
     pub fn jump(self, lines: u64) -> Result<Jump, Refusal>
         ensures value { result ≡ goes_to (finished_text self) lines }
     {
-        goto(self.draft.as_slice(), lines)
+        goto(self.as_slice(), lines)
     }
 }
