@@ -5,7 +5,7 @@ use Rattle.std.proofs.lemmas.List.{take_rest}
 use Rattle.std.proofs.lemmas.Bool.{cond_above, cond_below, cases_lt}
 use Rattle.std.proofs.lemmas.Str.{encode_ascii, encode_same}
 use Rattle.std.proofs.lemmas.Bool.Decides.{nat_tests}
-use Rattle.text.specs.Utf8.{Pair, Triple, Quad, Sequence, single, pair, triple, quad, Begins, NoneBegins}
+use Rattle.text.specs.Utf8.{Pair, Triple, Quad, Sequence, single, pair, triple, quad, Begins}
 
 -- The n bytes from place k on, one by one.
 abbrev bytes_from : (k n : ℕ) → List ℕ → List ℕ
@@ -24,21 +24,6 @@ front_and_rest n l h =
     let start : 0 + n ≡ n = omega arith in
     let within : 0 + n ≤ length l = omega arith in
     rw take_rest (rw start at (from_place n 0 l within))
-
--- Bytes of which each row was tried in vain, as far as they reach.
-pub none_begins : (l : List ℕ)
-    → (1 ≤ length l → get_or l 0 0 ≤ 0x7F → ⊥)
-    → (2 ≤ length l → Pair (get_or l 0 0) (get_or l 1 0) → ⊥)
-    → (3 ≤ length l → Triple (get_or l 0 0) (get_or l 1 0) (get_or l 2 0) → ⊥)
-    → (4 ≤ length l → Quad (get_or l 0 0) (get_or l 1 0) (get_or l 2 0) (get_or l 3 0) → ⊥)
-    → NoneBegins l
-none_begins l no-single no-pair no-triple no-quad value rest (s, row, e) = by row (sym e)
-  where
-    by : {s : List ℕ} {value : ℕ} → Sequence s value → s ++ rest ≡ l → ⊥
-    by (single {a = a} h) f = subst (λ (v : List ℕ). 1 ≤ length v → get_or v 0 0 ≤ 0x7F → ⊥) (sym f) no-single (omega arith) h
-    by (pair {a = a} {b = b} h) f = subst (λ (v : List ℕ). 2 ≤ length v → Pair (get_or v 0 0) (get_or v 1 0) → ⊥) (sym f) no-pair (omega arith) h
-    by (triple {a = a} {b = b} {c = c} h) f = subst (λ (v : List ℕ). 3 ≤ length v → Triple (get_or v 0 0) (get_or v 1 0) (get_or v 2 0) → ⊥) (sym f) no-triple (omega arith) h
-    by (quad {a = a} {b = b} {c = c} {d = d} h) f = subst (λ (v : List ℕ). 4 ≤ length v → Quad (get_or v 0 0) (get_or v 1 0) (get_or v 2 0) (get_or v 3 0) → ⊥) (sym f) no-quad (omega arith) h
 
 -- What `encode` gives by the number of bytes, at bytes that hold the value's bits.
 pub two_bytes : (c a b : ℕ) → 0x80 ≤ c → c < 0x800 → a ≡ 192 + c / 64 → b ≡ 128 + c % 64 → a ∷ b ∷ [] ≡ encode c

@@ -42,10 +42,6 @@ spelled_first c rest (then {bytes = bytes} {values = values} {c = d} first more)
     let same = first_is_one bytes rest first row e in
     (values, ap (λ v. v ∷ values) same.1, subst (λ l. Spells l values) same.2 more)
 
-pub nothing_spelled : {bytes values : List ℕ} → Spells bytes values → NoneBegins bytes → values ≡ []
-nothing_spelled nothing none = refl
-nothing_spelled (then {s = s} {bytes = bytes} {c = c} row more) none = absurd (none c bytes (s, row, refl))
-
 -- Where none begins what is left, no front is longer than what was read.
 pub longest_read : {s t values others : List ℕ} (rest x : List ℕ) → Spells s values → Spells t others → s ++ rest ≡ t ++ x → NoneBegins rest → length t ≤ length s
 longest_read rest x nothing nothing e none = omega arith
@@ -96,9 +92,3 @@ front_up_to_is (suc n) bytes h longer =
 pub front_length_is : (bytes : List ℕ) → LongestFront bytes (front_length bytes)
 unfolding front_length
 front_length_is bytes = front_up_to_is (length bytes) bytes (omega arith) (λ m l h w. omega arith)
-
--- The first character of well-formed bytes, and the bytes after it.
-pub characters_past : (bytes : List ℕ) (c : ℕ) (rest : List ℕ) → WellFormed bytes → Begins bytes c rest → (characters bytes ≡ c ∷ characters rest) × WellFormed rest
-characters_past bytes c rest w begins =
-    let first = spelled_first c rest (characters_spelled w) begins in
-    (first.1 ∙ ap (λ l. c ∷ l) (one_spelling first.2), (first.0, first.2))

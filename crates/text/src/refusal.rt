@@ -1,7 +1,10 @@
 // Why a call is refused. There is one list for all layers, so that a lower layer's refusal reaches the caller unchanged by `?`.
 // A refused call changes nothing.
-ghost use Rattle.std.specs.Prelude.{◌≡◌};
+ghost use Rattle.std.specs.Prelude.{◌≡◌, Some};
 ghost use Rattle.text.specs.Refusals.{number_of, layer_of, place_of, words_of, name_of};
+
+use std::error::Error;
+use std::fmt;
 
 /// The layer that refuses.
 #[derive(Clone, Copy, PartialEq, Eq, Debug)]
@@ -61,29 +64,15 @@ impl Layer {
     }
 }
 
-impl Refusal {
-    /// The number by which the refusal is known outside.
-    pub fn number(&self) -> u8
-        ensures value { result ≡ number_of self.now }
-    {
-        match self {
-            Refusal::BadLabel => 11,
-            Refusal::HistoryTooLong => 12,
-            Refusal::OutsideGlass => 13,
-            Refusal::LowSpare => 14,
-            Refusal::NotScalar => 15,
-            Refusal::IllFormed { .. } => 16,
-            Refusal::DraftFull => 17,
-            Refusal::BufferTooShort => 18,
-            Refusal::ListingTooLong => 19,
-            Refusal::EmptyNumber => 20,
-            Refusal::InvalidDigit => 21,
-            Refusal::PosOverflow => 22,
-            Refusal::NegOverflow => 23,
-            Refusal::NoLines => 24,
-        }
-    }
+impl fmt::Display for Layer {
+    ghost output = { λ layer. Some (name_of layer) };
 
+    fn fmt<W: fmt::Write>(&self, f: &mut fmt::Formatter<W>) -> fmt::Result {
+        f.write_str(self.name())
+    }
+}
+
+impl Refusal {
     /// The layer that refused.
     pub fn layer(&self) -> Layer
         ensures value { result ≡ layer_of self.now }
@@ -135,3 +124,37 @@ impl Refusal {
         }
     }
 }
+
+/// The number by which a refusal is known outside.
+impl From<Refusal> for u8 {
+    ghost from_gives = { λ refusal number. number ≡ number_of refusal };
+
+    fn from(refusal: Refusal) -> u8 {
+        match refusal {
+            Refusal::BadLabel => 11,
+            Refusal::HistoryTooLong => 12,
+            Refusal::OutsideGlass => 13,
+            Refusal::LowSpare => 14,
+            Refusal::NotScalar => 15,
+            Refusal::IllFormed { .. } => 16,
+            Refusal::DraftFull => 17,
+            Refusal::BufferTooShort => 18,
+            Refusal::ListingTooLong => 19,
+            Refusal::EmptyNumber => 20,
+            Refusal::InvalidDigit => 21,
+            Refusal::PosOverflow => 22,
+            Refusal::NegOverflow => 23,
+            Refusal::NoLines => 24,
+        }
+    }
+}
+
+impl fmt::Display for Refusal {
+    ghost output = { λ refusal. Some (words_of refusal) };
+
+    fn fmt<W: fmt::Write>(&self, f: &mut fmt::Formatter<W>) -> fmt::Result {
+        f.write_str(self.words())
+    }
+}
+
+impl Error for Refusal {}

@@ -1,6 +1,6 @@
 // Scalar values and white space.
 ghost use Rattle.std.specs.Prelude.{◌≡◌, ◌≤◌, ◌⊎◌, Decides};
-ghost use Rattle.std.proofs.Math.Utf8.{scalar};
+ghost use Rattle.std.proofs.Math.Utf8.{scalar, scalars};
 ghost use Rattle.text.specs.Scalars.{white};
 
 /// Whether `code` is a Unicode scalar value: at most 10FFFF, and no surrogate.
@@ -19,4 +19,11 @@ pub fn is_whitespace(code: u32) -> bool
         code,
         0x09..=0x0D | 0x20 | 0x85 | 0xA0 | 0x1680 | 0x2000..=0x200A | 0x2028 | 0x2029 | 0x202F | 0x205F | 0x3000
     )
+}
+
+/// Whether each of the codes is a Unicode scalar value.
+pub fn all_scalars(codes: &[u32]) -> bool
+    ensures value { result ≡ scalars codes.now }
+{
+    codes.iter().all(|code| is_scalar(*code))
 }

@@ -1,6 +1,8 @@
 // UTF-8, read and written by Table 3-7 of the Unicode Standard.
-ghost use Rattle.std.specs.Prelude.{◌≡◌, ◌+◌, ◌%◌, true, take, is_err, IfOk, Decides, MatchOption, OnOk};
+ghost use Rattle.std.specs.Prelude.{◌≡◌, ◌+◌, ◌%◌, true, take, is_err, IfOk, Decides, MatchOption, OnOk, IfErr, ℕ};
 ghost use Rattle.std.proofs.Math.Utf8.{encode as encoding};
+ghost use Rattle.std.specs.Str.{IsUtf8, IsValidUpTo};
+ghost use Rattle.text.specs.declared.refusal.Refusal.TheVariants.{IllFormed};
 ghost use Rattle.text.specs.Utf8.{Pair, Triple, Quad, Sequence, Begins, NoneBegins, characters, counted, RefusedExactly, overwritten, encoded, Utf8Laws};
 
 use crate::refusal::Refusal;
@@ -59,43 +61,46 @@ pub fn next(bytes: &[u8]) -> Option<(u32, &[u8])>
     }
 }
 
+// Well-formed bytes as a text.
+fn text_of(bytes: &[u8]) -> Result<&str, Refusal>
+    ensures read { IfOk result (λ text. (text.now ≡ bytes.now) × IsUtf8 bytes.now) }
+    ensures refused { IfErr result (λ refusal. ¬ (IsUtf8 bytes.now) × ((place : ℕ) × (refusal ≡ IllFormed place) × IsValidUpTo bytes.now place)) }
+{
+    match str::from_utf8(bytes) {
+        Ok(text) => Ok(text),
+        Err(error) => Err(Refusal::IllFormed {
+            place: error.valid_up_to(),
+        }),
+    }
+}
+
 /// How many characters well-formed bytes spell. Refused as `IllFormed` exactly where the bytes are not well formed: the place is
 /// the length of their longest front that is.
+#[tactic(auto, using(std::proofs::lemmas::Str::chars_from_encodes, crate::proofs::Readings::counted_of_utf8, crate::proofs::Readings::spelled_of_utf8))]
 pub fn count(bytes: &[u8]) -> Result<usize, Refusal>
     ensures value { result ≡ counted bytes.now }
     ensures refused_exactly { RefusedExactly bytes.now result }
 {
-    let mut rest = bytes;
-    let mut total = 0;
-    while let Some((_, after)) = next(rest) {
-        rest = after;
-        total += 1;
-    }
-    if rest.is_empty() {
-        Ok(total)
-    } else {
-        Err(Refusal::IllFormed {
-            place: bytes.len() - rest.len(),
-        })
-    }
+    Ok(text_of(bytes)?.chars().count())
 }
 
 /// Writes the characters of well-formed bytes to the front of `out`, as far as it has room, and tells how many there are.
 /// Refused as `count` is. The bytes are read through before anything is written, so that a refusal leaves `out` as it was.
+#[tactic(auto, using(std::proofs::lemmas::Str::chars_from_encodes, crate::proofs::Readings::counted_of_utf8, crate::proofs::Readings::spelled_of_utf8))]
 pub fn decode(bytes: &[u8], out: &mut [u32]) -> Result<usize, Refusal>
     ensures value { result ≡ counted bytes.now }
     ensures refused_exactly { RefusedExactly bytes.now result }
     ensures written { OnOk result (out.new ≡ overwritten out.old (characters bytes.now)) }
     ensures unchanged_if_refused { is_err result ≡ true → out.new ≡ out.old }
 {
-    let spelled = count(bytes)?;
-    let mut rest = bytes;
+    let text = text_of(bytes)?;
+    let spelled = text.chars().count();
+    let mut characters = text.chars();
     for place in out.iter_mut() {
-        let Some((value, after)) = next(rest) else {
+        let Some(character) = characters.next() else {
             break;
         };
-        *place = value;
-        rest = after;
+        *place = u32::from(character);
     }
     Ok(spelled)
 }

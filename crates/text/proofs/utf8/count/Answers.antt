@@ -1,15 +1,10 @@
-use Rattle.std.proofs.Common.{arith}
-use Rattle.text.proofs.Readings.{reading_none, reading_more, shorter_after}
+use Rattle.std.proofs.Common.{◌≡◌, rules}
+use Rattle.text.specs.Utf8.{counted}
+use Rattle.text.proofs.Readings.{refused_at_fault, counted_exactly}
 use Rattle.text.proofs.utf8.count.Goals as goal
 
-pub loop-after-init : goal.loop-after-init
-loop-after-init c = reading_none c.args.bytes.now
-
-pub overflow_add-total : goal.overflow_add-total
-overflow_add-total c = omega (arith, shorter_after c.loop-after.rest.now c.in-Some.field-0-0 c.in-Some.after.now c.in-Some.ensures.value)
-
-pub loop-after-smaller : goal.loop-after-smaller
-loop-after-smaller c = shorter_after c.loop-after.rest.now c.in-Some.field-0-0 c.in-Some.after.now c.in-Some.ensures.value
-
-pub loop-after-preserved : goal.loop-after-preserved
-loop-after-preserved c = reading_more c.args.bytes.now c.loop-after.rest.now c.loop-after.total c.in-Some.field-0-0 c.in-Some.after.now c.loop-after.invariant c.in-Some.ensures.value
+pub returns-in_err-text_of : goal.returns-in_err-text_of
+returns-in_err-text_of c =
+    let refused = refused_at_fault c.args.bytes.now c.in_err-text_of.field-0.0 c.in_err-text_of.ensures.refused in
+    let value : c.from_residual.result ≡ counted c.args.bytes.now = search (rules, refused) in
+    record { value = value; refused_exactly = counted_exactly c.args.bytes.now _ value }
