@@ -1,6 +1,6 @@
 -- The steps of reading digits from the left: the value so far, and the first fault so far.
 use Rattle.std.proofs.Common.{◌≡◌, ℕ, zero, suc, ◌+◌, ◌-◌, ◌*◌, ◌^◌, ◌<◌, ◌≤◌, Bool, true, false, cond, leb, List, [], ◌∷◌, ◌++◌, length, get_or, take, Some, None, Ok, Err, Result, refl, ◌∙◌, inl, inr, mul_assoc, pow-suc, add-one, arith, MatchResult}
-use Rattle.std.proofs.lemmas.List.{length_push, take_more, take_all}
+use Rattle.std.proofs.lemmas.List.{length_push, take_more}
 use Rattle.std.proofs.lemmas.Bool.{cases_eq}
 use Rattle.text.specs.declared.refusal.Refusal.{Refusal}
 use Rattle.text.specs.declared.refusal.Refusal.TheVariants.{InvalidDigit}
@@ -48,7 +48,3 @@ read_more s cs i r h e =
 pub stops_reading : (s : Sign) (cs : List ℕ) (i : ℕ) (f : Refusal) → i < length cs → first_fault s cs i ≡ None → fault_at s cs i ≡ Some f → digits_read s cs ≡ Err f
 stops_reading s cs i f h none here =
     rw (first_fault_stays s cs f (i + 1) (length cs) (omega arith) (first_fault_more s cs i none ∙ here))
-
--- The reading ends where no fault was met.
-pub ends_reading : (s : Sign) (cs : List ℕ) (i : ℕ) → i ≡ length cs → first_fault s cs i ≡ None → digits_read s cs ≡ Ok (value (take i cs))
-ends_reading s cs i h none = rw (h, take_all (length cs) cs (omega arith), (rw h at none))

@@ -1,4 +1,3 @@
 mod Faults
-mod Signs
 mod Stands
 mod Targets

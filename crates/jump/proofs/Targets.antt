@@ -1,14 +1,16 @@
--- From a text to the number in it, and from a number to the line that it names.
-use Rattle.std.proofs.Common.{◌≡◌, ℕ, false, List, [], ◌∷◌, length, ℤ, Ok, Result, refl, arith}
-use Rattle.std.proofs.lemmas.Bool.{ne_eqb}
+-- From the number in a text to the line that it names.
+use Rattle.std.proofs.Common.{◌≡◌, ◌==◌, ℕ, Bool, true, false, cond, ℤ, Ok, Err, Result, MatchBool, ap, ◌∙◌}
 use Rattle.text.specs.declared.refusal.Refusal.{Refusal}
+use Rattle.text.specs.declared.refusal.Refusal.TheVariants.{NoLines}
+use Rattle.jump.specs.declared.goto.Jump.{Jump}
 use Rattle.jump.specs.declared.goto.Jump.TheVariants.{Line}
-use Rattle.jump.specs.Goto.{to_line, ends_in_percent}
+use Rattle.jump.specs.Goto.{to_line, LeadsBy}
 
-pub line_reached : (at : ℤ → ℕ → ℕ) (lines : ℕ) (n : ℤ) (line : ℕ) (read : Result ℤ Refusal)
-    → read ≡ Ok n → (lines ≡ 0 → ⊥) → line ≡ at n lines → Ok (Line line) ≡ to_line at lines read
-line_reached at lines n line read e some here = rw (e, ne_eqb lines 0 some, here)
-
-pub nothing_is_no_percentage : (text : List ℕ) → length text ≡ 0 → false ≡ ends_in_percent text
-nothing_is_no_percentage [] none = refl
-nothing_is_no_percentage (c ∷ cs) none = absurd (omega arith)
+pub line_reached : (at : ℤ → ℕ → ℕ) (Names : ℤ → ℕ → Type 0) (lines : ℕ) (read : Result ℤ Refusal) (result : Result Jump Refusal)
+    → ((n : ℤ) (line : ℕ) → Names n line → line ≡ at n lines) → LeadsBy Names lines read result → result ≡ to_line at lines read
+line_reached at Names lines (Err fault) result here led = led
+line_reached at Names lines (Ok n) result here led = by (lines == 0) led
+  where
+    by : (none : Bool) → MatchBool none (result ≡ Err NoLines) ((line : ℕ) × Names n line × (result ≡ Ok (Line line))) → result ≡ cond none (Err NoLines) (Ok (Line (at n lines)))
+    by true refused = refused
+    by false (line, named, e) = e ∙ ap (λ l. Ok (Line l)) (here n line named)

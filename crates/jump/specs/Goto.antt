@@ -1,5 +1,5 @@
 -- Where a typed text jumps to in a listing.
-use Rattle.std.specs.Prelude.{ℕ, suc, ◌-◌, ◌*◌, ◌/◌, min, Bool, cond, ◌&&◌, List, [], ◌∷◌, length, take, ℤ, pos, negsuc, Ok, Err, Result, ◌==◌, nat_lt, slice_index}
+use Rattle.std.specs.Prelude.{◌≡◌, MatchBool, ℕ, suc, ◌-◌, ◌*◌, ◌/◌, min, Bool, cond, ◌&&◌, List, [], ◌∷◌, length, take, ℤ, pos, negsuc, Ok, Err, Result, ◌==◌, nat_lt, slice_index}
 use Rattle.text.specs.declared.refusal.Refusal.{Refusal}
 use Rattle.text.specs.declared.refusal.Refusal.TheVariants.{ListingTooLong, NoLines}
 use Rattle.jump.specs.declared.goto.Jump.{Jump}
@@ -29,6 +29,11 @@ line_at_percent p lines = percent_held p * (lines - 1) / 100
 abbrev pub to_line : (ℤ → ℕ → ℕ) → (lines : ℕ) → Result ℤ Refusal → Result Jump Refusal
 to_line at lines (Err fault) = Err fault
 to_line at lines (Ok n) = cond (lines == 0) (Err NoLines) (Ok (Line (at n lines)))
+
+-- The same by a relation of a number and its line.
+abbrev pub LeadsBy : (ℤ → ℕ → Type 0) → (lines : ℕ) → Result ℤ Refusal → Result Jump Refusal → Type 0
+LeadsBy Names lines (Err fault) result = result ≡ Err fault
+LeadsBy Names lines (Ok n) result = MatchBool (lines == 0) (result ≡ Err NoLines) ((line : ℕ) × Names n line × (result ≡ Ok (Line line)))
 
 abbrev pub ends_in_percent : List ℕ → Bool
 ends_in_percent text = slice_index text (length text - 1) == 0x25

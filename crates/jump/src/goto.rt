@@ -1,7 +1,8 @@
 // Where a typed text jumps to.
 ghost use Rattle.std.specs.Prelude.{◌≡◌, ◌≤◌};
 ghost use Rattle.jump.specs.Numeral.{number_read};
-ghost use Rattle.jump.specs.Goto.{line_at, line_at_percent, to_line, ends_in_percent, target_of, most_lines, goes_to};
+ghost use Rattle.jump.specs.Goto.{line_at, line_at_percent, target_of, most_lines, goes_to};
+ghost use Rattle.jump.specs.Goto.{LeadsBy};
 
 use crate::number::number;
 use text::refusal::Refusal;
@@ -52,38 +53,20 @@ fn relative(percent: i64, lines: u64) -> u64
     held as u64 * (lines - 1) / 100
 }
 
-/// The line at a percentage, spelled without its sign.
-fn to_percent(spelling: &[u32], lines: u64) -> Result<Jump, Refusal>
-    requires lines_fit { lines ≤ most_lines }
-    ensures value { result ≡ to_line line_at_percent lines (number_read spelling.now) }
-{
-    let percent = number(spelling)?;
-    if lines == 0 {
-        return Err(Refusal::NoLines);
-    }
-    Ok(Jump::Line(relative(percent, lines)))
-}
-
-/// The line of a number.
-fn to_number(spelling: &[u32], lines: u64) -> Result<Jump, Refusal>
-    requires lines_fit { lines ≤ most_lines }
-    ensures value { result ≡ to_line line_at lines (number_read spelling.now) }
+/// The line that `line_of` finds for the number that a text spells.
+fn to_line<F: Fn(i64, u64) -> u64>(
+    spelling: &[u32],
+    lines: u64,
+    line_of: F,
+) -> Result<Jump, Refusal>
+    requires some_lines_serve { 1 ≤ lines → (n : _) → F.pre line_of n lines }
+    ensures value { LeadsBy (λ n line. F.post line_of n lines line) lines (number_read spelling.now) result }
 {
     let n = number(spelling)?;
     if lines == 0 {
         return Err(Refusal::NoLines);
     }
-    Ok(Jump::Line(absolute(n, lines)))
-}
-
-/// Whether a text is a percentage.
-fn is_percentage(text: &[u32]) -> bool
-    ensures value { result ≡ ends_in_percent text.now }
-{
-    match text {
-        [] => false,
-        [.., last] => *last == PERCENT,
-    }
+    Ok(Jump::Line(line_of(n, lines)))
 }
 
 /// The line that a text of one character and more names. A final % makes it a percentage.
@@ -92,8 +75,8 @@ fn to_target(text: &[u32], lines: u64) -> Result<Jump, Refusal>
     ensures value { result ≡ target_of text.now lines }
 {
     match text {
-        [spelling @ .., _] if is_percentage(text) => to_percent(spelling, lines),
-        spelling => to_number(spelling, lines),
+        [spelling @ .., PERCENT] => to_line(spelling, lines, relative),
+        spelling => to_line(spelling, lines, absolute),
     }
 }
 

@@ -40,8 +40,10 @@ impl Sign {
 fn appended(value: u64, digit: u64, limit: u64) -> Option<u64>
     ensures value { result ≡ (if nat_le (10 * value + digit) limit then Some (10 * value + digit) else None) }
 {
-    let next = value.checked_mul(10)?.checked_add(digit)?;
-    if next <= limit { Some(next) } else { None }
+    value
+        .checked_mul(10)?
+        .checked_add(digit)
+        .filter(|next| *next <= limit)
 }
 
 /// The number that the digits so far write, with the character after them. A character that is no digit is refused as such, even
@@ -50,7 +52,7 @@ fn read_on(sign: Sign, so_far: u64, c: u32) -> Result<u64, Refusal>
     ensures value { result ≡ one_more sign so_far c }
 {
     match c {
-        0x30..=0x39 => appended(so_far, (c - 0x30) as u64, sign.limit()).ok_or(sign.passed()),
+        0x30..=0x39 => appended(so_far, u64::from(c - 0x30), sign.limit()).ok_or(sign.passed()),
         _ => Err(Refusal::InvalidDigit),
     }
 }
@@ -77,7 +79,7 @@ fn signed(sign: Sign, digits: &[u32]) -> Result<i64, Refusal>
     let value = magnitude(sign, digits)?;
     match sign {
         Sign::Plus => Ok(value as i64),
-        Sign::Minus => Ok((-(value as i128)) as i64),
+        Sign::Minus => Ok(-i128::from(value) as i64),
     }
 }
 
