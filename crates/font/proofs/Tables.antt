@@ -1,8 +1,11 @@
 -- Tables of ranges: that one rises is a test; what a search by halves concludes from that;
 -- and how one rising table and three lists of ranges say the same.
-use Rattle.std.proofs.Common.{◌≡◌, ℕ, zero, suc, ◌<◌, ◌≤◌, Bool, true, false, cond, ◌&&◌, ◌||◌, leb, ◌⊎◌, List, [], ◌∷◌, length, get_or, refl, inl, inr, arith}
+use Rattle.std.proofs.Common.{◌≡◌, ℕ, zero, suc, ◌<◌, ◌≤◌, Bool, true, false, cond, ◌&&◌, ◌||◌, leb, ltb, ◌⊎◌, List, [], ◌∷◌, length, get_or, sym, refl, ap, ◌∙◌, inl, inr, arith}
 use Rattle.std.proofs.lemmas.Bool.Decides.{nat_tests}
-use Rattle.std.proofs.lemmas.Bool.{cases_eq}
+use Rattle.std.specs.List.Sorted.{IsPartitionedBy, IsPartitionPoint}
+use Rattle.std.proofs.lemmas.List.Sorted.{IsPartitionedBy-ltb, IsNonDecreasingBy-from_default}
+use Rattle.std.proofs.lemmas.Bool.{cases_eq, cases_lt}
+use Rattle.std.proofs.lemmas.List.{get_or_default}
 use Rattle.text.specs.Scalars.{within}
 use Rattle.font.specs.declared.Columns.{Columns}
 use Rattle.font.specs.declared.Columns.TheVariants.{NoWidth, Zero, One, Two}
@@ -83,12 +86,43 @@ below_later table c m k rise le h below = elim (cases_eq m k) [
   | inr other ↦ let a = rise.apart m k (omega arith) h in let b = rise.forward m (omega arith) in omega (arith, a, b)
 ]
 
--- A code above one range is above each earlier one.
-pub above_earlier : (table : List CodeRange) (c m k : ℕ) → Rising table → k ≤ m → m < length table → last_at table m < c → last_at table k < c
-above_earlier table c m k rise le h above = elim (cases_eq m k) [
-  | inl same ↦ rw same at above
-  | inr other ↦ let a = rise.apart k m (omega arith) h in let b = rise.forward m h in omega (arith, a, b)
+-- The ranges that end before a code stand first ..
+ends_rise : (table : List CodeRange) (j k : ℕ) → Rising table → j ≤ k → k < length table → last_at table j ≤ last_at table k
+ends_rise table j k rise le h = elim (cases_eq j k) [
+  | inl same ↦ rw same (omega arith)
+  | inr other ↦ let a = rise.apart j k (omega arith) h in let b = rise.forward k h in omega (arith, a, b)
 ]
+
+abbrev pub EndedFirst : List CodeRange → (c i : ℕ) → Type 0
+EndedFirst table c i = IsPartitionPoint (λ r. r.1 < c) (λ r. c ≤ r.1) table i
+
+pub ended_first : (table : List CodeRange) (c : ℕ) → Rising table → IsPartitionedBy (λ r. ltb r.1 c) table
+ended_first table c rise = IsPartitionedBy-ltb (λ r. r.1) table c (IsNonDecreasingBy-from_default (λ r. r.1) table (0, 0, NoWidth) (λ j k le h. ends_rise table j k rise le h))
+
+-- .. and where i of them do, a code that a range holds is in the next one.
+pub found : (table : List CodeRange) (c i : ℕ) (range : CodeRange) → Rising table → EndedFirst table c i → i < length table → range ≡ get_or table i range → range.0 ≤ c
+    → range.2 ≡ listed table c
+found table c i range rise ended h is from =
+    let same : get_or table i (0, 0, NoWidth) ≡ range = get_or_default table i _ range h ∙ sym is in
+    let first : first_at table i ≡ range.0 = ap (λ (r : CodeRange). r.0) same in
+    ap (λ (r : CodeRange). r.2) (sym same) ∙ held table c i rise h (omega arith) (ended.1 i (0, 0, NoWidth) (omega arith) h)
+
+not_found : (table : List CodeRange) (c i : ℕ) → Rising table → EndedFirst table c i → (i < length table → c < first_at table i) → One ≡ listed table c
+not_found table c i rise ended below =
+    in_none table c (λ k h. elim (cases_lt k i) [
+      | inl a ↦ inl (ended.0 k (0, 0, NoWidth) (omega arith) a)
+      | inr b ↦ inr (below_later table c i k rise b h (below (omega arith)))
+    ])
+
+pub before_next : (table : List CodeRange) (c i : ℕ) (range : CodeRange) → Rising table → EndedFirst table c i → i < length table → range ≡ get_or table i range → c < range.0
+    → One ≡ listed table c
+before_next table c i range rise ended h is before =
+    let same : get_or table i (0, 0, NoWidth) ≡ range = get_or_default table i _ range h ∙ sym is in
+    let first : first_at table i ≡ range.0 = ap (λ (r : CodeRange). r.0) same in
+    not_found table c i rise ended (λ _. omega arith)
+
+pub past_all : (table : List CodeRange) (c i : ℕ) → Rising table → EndedFirst table c i → length table ≤ i → One ≡ listed table c
+past_all table c i rise ended past = not_found table c i rise ended (λ h. absurd (omega arith))
 
 -- Whether a table's first range, or one of the rest, passes the test and holds c.
 abbrev asked : (Columns → Bool) → ℕ → CodeRange → List CodeRange → Bool

@@ -1,11 +1,8 @@
 -- How a character without a width is spelled, and how many columns a character and a text take.
 use Rattle.std.specs.Prelude.{ℕ, zero, suc, ◌+◌, ◌/◌, ◌%◌, ◌≤◌, Bool, true, false, cond, ◌||◌, List, [], ◌∷◌, ◌++◌, length, take, drop, ◌==◌, nat_lt}
+pub use Rattle.text.specs.Hex.{hex_digit}
 use Rattle.font.specs.declared.Columns.{Columns}
 use Rattle.font.specs.declared.Columns.TheVariants.{NoWidth, Zero, One, Two}
-
--- A digit below 16 as a character: 0 to 9, then A to F.
-abbrev pub hex_digit : ℕ → ℕ
-hex_digit d = cond (nat_lt d 10) (0x30 + d) (0x37 + d)
 
 -- The last `count` hexadecimal digits of n.
 abbrev pub hex : (count n : ℕ) → List ℕ

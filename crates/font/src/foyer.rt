@@ -1,5 +1,6 @@
 // The foyer font: a table of ranges, searched by halves.
-ghost use Rattle.std.specs.Prelude.{◌≡◌, true};
+ghost use Rattle.std.specs.Prelude.{◌≡◌, ◌<◌, ◌≤◌, true};
+ghost use Rattle.std.specs.List.Sorted.{IsPartitionPoint};
 ghost use Rattle.font.specs.Foyer.{foyer_columns, no_width_ranges, zero_column_ranges, two_column_ranges};
 ghost use Rattle.font.specs.Labels.{has_label, is_mark, is_wide};
 ghost use Rattle.font.specs.Ranges.{listed, ranges_of, rises_from};
@@ -43,25 +44,24 @@ pub fn foyer_table() -> &'static [CodeRange]
     RANGES
 }
 
+/// How many ranges of a rising table end before `code`. They stand first.
+fn ended_before(table: &[CodeRange], code: u32) -> usize
+    requires rises { rises_from 0 table.now ≡ true }
+    ensures ended { IsPartitionPoint (λ range. range.1 < code) (λ range. code ≤ range.1) table.now result }
+{
+    table.partition_point(|range| range.1 < code)
+}
+
 /// What a rising table says of `code`, found by halves.
+#[tactic(auto, using(crate::proofs::Tables::before_next, crate::proofs::Tables::past_all, crate::proofs::Tables::rising))]
 fn look_up(table: &[CodeRange], code: u32) -> Columns
     requires rises { rises_from 0 table.now ≡ true }
     ensures value { result ≡ listed table.now code }
 {
-    let mut low = 0;
-    let mut high = table.len();
-    while low < high {
-        let middle = low + (high - low) / 2;
-        let (first, last, columns) = table[middle];
-        if code < first {
-            high = middle;
-        } else if last < code {
-            low = middle + 1;
-        } else {
-            return columns;
-        }
+    match table.get(ended_before(table, code)) {
+        Some((first, _, columns)) if *first <= code => *columns,
+        _ => Columns::One,
     }
-    Columns::One
 }
 
 /// The font of the foyer console.

@@ -43,6 +43,8 @@ pub fn columns_in<F: Font>(code: u32) -> usize
     }
 }
 
+// The rules ask these two by name. One function over the case would make every caller spell the case.
+
 /// Whether a character is shown by its label.
 pub fn has_label<F: Font>(code: u32) -> bool
     ensures value { result ≡ has_label (F.Font.columns code) }

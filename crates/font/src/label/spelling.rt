@@ -35,7 +35,7 @@ impl Label {
     pub fn as_slice(&self) -> &[u32]
         ensures value { result.now ≡ label_text self.now }
     {
-        &self.chars[0..self.len]
+        &self.chars[..self.len]
     }
 
     /// As much of the label as fits in `columns`.
@@ -43,10 +43,6 @@ impl Label {
         ensures value { result.now ≡ take columns (label_text self.now) }
     {
         let text = self.as_slice();
-        if columns < text.len() {
-            &text[0..columns]
-        } else {
-            text
-        }
+        text.get(..columns).unwrap_or(text)
     }
 }
