@@ -1,22 +1,15 @@
 -- The text of a draft, read off its memory.
-use Rattle.std.proofs.Common.{◌≡◌, ℕ, ◌+◌, ◌-◌, ◌<◌, ◌≤◌, min, max, Bool, true, cond, ◌&&◌, leb, List, ◌++◌, length, take, drop, ap, ◌∙◌, arith, rules}
+use Rattle.std.proofs.Common.{◌≡◌, ℕ, ◌+◌, ◌-◌, ◌<◌, ◌≤◌, Bool, true, cond, ◌&&◌, leb, List, ◌++◌, length, take, drop, ap, ◌∙◌, arith, rules}
 use borrow.Rule.Slice.PartMut.{put_mid}
 use lib.Seq.{take-set-lt}
-use Rattle.std.proofs.lemmas.List.{places, same_lists, take-append-drop, get_or-take, length-take-le}
+use Rattle.std.proofs.lemmas.List.{places, same_lists, get_or-take, length-take-le}
 use Rattle.std.proofs.lemmas.Bool.Decides.{nat_tests}
 use Rattle.text.specs.Gap.{gap_opened, gap_closed}
-use Rattle.draft.specs.Line.{Line, line, removed_to, swapped_before}
+use Rattle.draft.specs.Line.{line, swapped_before}
 use Rattle.draft.specs.Draft.{draft, DraftsAreSound}
 
 pub same_draft : (t u : List ℕ) (p q o n : ℕ) → t ≡ u → p ≡ q → o ≡ n → draft (line t p) o ≡ draft (line u q) n
 same_draft t u p q o n a b d = cc
-
--- where the reach is the place, nothing goes
-pub removed_nothing : (l : Line) (reach : ℕ) → reach ≡ l.place → removed_to reach l ≡ l
-removed_nothing l reach e =
-    let low : min l.place reach ≡ l.place = omega arith in
-    let high : max l.place reach ≡ l.place = omega arith in
-    rw (low, high) (ap (λ (t : List ℕ). line t l.place) (take-append-drop l.place l.text))
 
 -- after a gap was closed over the characters from one place to another
 pub text_without : (xs ys : List ℕ) (len from to : ℕ) (closed : Bool) → from ≤ to → to ≤ len → len ≤ length xs
@@ -27,12 +20,6 @@ text_without xs ys len from to closed h k m e f =
     let yes : closed ≡ true = grind (arith, nat_tests) in
     let g : ys ≡ gap_closed xs len from (to - from) = f ∙ ap (λ (b : Bool). cond b (gap_closed xs len from (to - from)) xs) yes in
     rw g (same_lists _ _ (search (rules, places)) (λ i d l. grind (arith, places)))
-
--- the offset stays where it is up to the place
-pub offset_kept : (l m : Line) (offset : ℕ) → offset ≤ l.place → m ≡ l → draft m (min offset m.place) ≡ draft l offset
-offset_kept l m offset h e =
-    let low : min offset l.place ≡ offset = omega arith in
-    ap (λ (x : Line). draft x (min offset x.place)) e ∙ ap (draft l) low
 
 -- after two characters of the text changed places
 pub text_swapped : (xs : List ℕ) (len p : ℕ) → 2 ≤ p → p ≤ len → take len (swapped_before p xs) ≡ swapped_before p (take len xs)

@@ -4,7 +4,8 @@ use Rattle.std.specs.List.{prefix_len}
 use Rattle.std.proofs.lemmas.List.{get_or-drop, length-drop}
 use Rattle.std.proofs.lemmas.List.Sums.{prefix_len-le-length}
 use Rattle.std.proofs.lemmas.Bool.{cases_lt, cases_Bool, both_ways}
-use Rattle.draft.specs.Words.{on_past, back_past, word_end, word_start}
+use Rattle.text.specs.Walks.{on_past, back_past}
+use Rattle.draft.specs.Words.{word_end, word_start}
 use Rattle.draft.specs.Walks.{AllPass, WalkOn, WalkBack, WordEndIsFurthest, WordStartIsFurthest}
 
 module _ (test : ℕ → Bool) where

@@ -1,6 +1,5 @@
 pub mod Scalars
 pub mod Drafts
-pub mod Refusals
 pub mod Pasting
 pub mod Steps
 pub mod Scrolling

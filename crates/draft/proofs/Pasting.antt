@@ -1,13 +1,10 @@
 -- Bytes that spell a text come in as that text does.
-use Rattle.std.proofs.Common.{◌≡◌, ℕ, ◌+◌, ◌<◌, ◌≤◌, Bool, true, false, cond, leb, List, length, take, drop, Some, Ok, Err, Result, sym, refl, arith}
+use Rattle.std.proofs.Common.{◌≡◌, ℕ, ◌≤◌, Bool, true, false, cond, List, length, take, drop, Ok, Err, Result, sym, refl, arith}
 use lib.Utf8.{scalars}
 use Rattle.std.proofs.lemmas.List.{take_all, take_at}
-use Rattle.std.proofs.lemmas.Bool.{lt-leb}
 use Rattle.text.specs.declared.refusal.Refusal.{Refusal}
-use Rattle.text.specs.declared.refusal.Refusal.TheVariants.{DraftFull}
 use Rattle.text.specs.Utf8.{Spells, characters, counted, well_formed, overwritten}
 use Rattle.text.proofs.Spellings.{spelled_is_encoding}
-use Rattle.draft.specs.Line.{capacity}
 use Rattle.draft.specs.Draft.{Draft}
 use Rattle.draft.specs.Edits.{insertion_refused, pasting_refused}
 
@@ -28,10 +25,4 @@ module _ (bytes : List ℕ) (d : Draft) (n : ℕ) (accepted : Ok n ≡ counted b
   pasted_as_inserted spelled =
       let a = is_well_formed in
       let b : scalars (characters bytes) ≡ true = (spelled_is_encoding spelled).0 in
-      rw (a, b)
-
-  pub pasted_too_long : n ≡ length (characters bytes) → capacity < n → pasting_refused bytes d ≡ Some DraftFull
-  pasted_too_long e h =
-      let a = is_well_formed in
-      let b : leb (length d.line.text + length (characters bytes)) capacity ≡ false = lt-leb _ _ (omega arith) in
       rw (a, b)

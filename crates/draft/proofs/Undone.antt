@@ -3,7 +3,7 @@ use Rattle.std.proofs.Common.{◌≡◌, ℕ, zero, suc, ◌+◌, ◌<◌, ◌�
 use Rattle.std.proofs.lemmas.Bool.{cases_lt, cases_Bool, lt-ltb, le-ltb}
 use Rattle.font.specs.declared.Columns.{Columns}
 use Rattle.font.specs.Labels.{is_mark}
-use Rattle.draft.specs.Words.{on_past}
+use Rattle.text.specs.Walks.{on_past}
 use Rattle.draft.specs.Line.{Line, moved_to, left_from, left_of, right_of}
 use Rattle.draft.specs.Walks.{AllPass}
 use Rattle.draft.specs.Clusters.{StartsCluster, LeftUndoesRight, LeftUndoesRightOnlyThere}

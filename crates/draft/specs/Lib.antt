@@ -3,7 +3,6 @@ pub mod Line
 pub mod Draft
 pub mod Edits
 pub mod Scroll
-pub mod Stretches
 pub mod Walks
 pub mod Clusters
 pub mod Examples

@@ -1,9 +1,10 @@
 -- A line as a seller edits it: its text, and the place of the cursor in it. Nothing here knows of scrolling.
 use Rattle.std.specs.Prelude.{ℕ, zero, suc, ◌+◌, ◌-◌, min, max, Bool, cond, ◌&&◌, List, [], ◌++◌, length, take, drop, nat_lt, slice_index, slice_set}
 use Rattle.text.specs.Scalars.{white}
+use Rattle.text.specs.Walks.{on_past}
 use Rattle.font.specs.declared.Columns.{Columns}
 use Rattle.font.specs.Labels.{is_mark}
-use Rattle.draft.specs.Words.{on_past, word_start, word_end}
+use Rattle.draft.specs.Words.{word_start, word_end}
 
 -- the place is the number of characters before the cursor
 pub record Line : Type 0 where

@@ -3,6 +3,5 @@
 
 pub mod action;
 pub mod laws;
-mod marks;
 pub mod state;
 pub mod words;

@@ -17,6 +17,7 @@ pub const MARGIN: usize = 5;
 #[derive(Clone, Copy)]
 pub struct PromptState {
     /// The text is the first `len` of these.
+    // An array with its length beside it, and no ArrayVec: a draft is Copy, and a refused call leaves the whole array as it was.
     value: [u32; CAPACITY],
     len: usize,
     /// The number of characters that lie out of sight on the left.

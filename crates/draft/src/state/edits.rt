@@ -1,6 +1,5 @@
 // The edits of a draft. Each makes a line from the line before, and lowers the offset to the place where that lies below it.
 ghost use Rattle.std.specs.Prelude.{◌≡◌, ◌≤◌, [], ◌∷◌, OnErr, OnOk};
-ghost use Rattle.std.proofs.Math.Utf8.{scalars};
 ghost use Rattle.text.specs.Utf8.{characters};
 ghost use Rattle.draft.specs.declared.action.DisplayAction.TheVariants.{Redraw};
 ghost use Rattle.draft.specs.Line.{empty_line, prev_char, next_char, prev_word, next_word, line_start, line_end, left_of, right_of};
@@ -9,26 +8,14 @@ ghost use Rattle.draft.specs.Edits.{inserting, removing, moving, swapping, answe
 
 use super::{CAPACITY, MARGIN, PromptState};
 use crate::action::DisplayAction;
-use crate::marks::{back_past_marks, on_past_marks};
 use crate::words::{move_word_backwards, move_word_forwards};
 use font::Font;
-use font::measure::has_label;
+use font::measure::{has_label, is_mark};
 use text::gap::{close_gap, open_gap};
 use text::refusal::Refusal;
-use text::scalar::is_scalar;
+use text::scalar::all_scalars;
 use text::utf8;
-
-/// Whether each of the characters is a scalar value.
-fn all_scalars(chars: &[u32]) -> bool
-    ensures value { result ≡ scalars chars.now }
-{
-    for c in chars {
-        if !is_scalar(*c) {
-            return false;
-        }
-    }
-    true
-}
+use text::walks::{back_past, on_past};
 
 impl PromptState {
     /// An empty draft.
@@ -58,7 +45,7 @@ impl PromptState {
             return Err(Refusal::DraftFull);
         }
         let at = self.position;
-        open_gap(&mut self.value, len, at, count);
+        open_gap(&mut self.value, len, at, count).unwrap();
         self.value[at..at + count].copy_from_slice(chars);
         self.len = len + count;
         self.position = at + count;
@@ -77,7 +64,7 @@ impl PromptState {
         let len = self.len;
         let from = self.position.min(reach);
         let count = self.position.max(reach) - from;
-        close_gap(&mut self.value, len, from, count);
+        close_gap(&mut self.value, len, from, count).unwrap();
         self.len = len - count;
         self.offset = self.offset.min(from);
         self.position = from;
@@ -133,10 +120,8 @@ impl PromptState {
     {
         let mut text = [0; CAPACITY];
         let count = utf8::decode(bytes, &mut text)?;
-        if count > CAPACITY {
-            return Err(Refusal::DraftFull);
-        }
-        self.insert_str(&text[0..count])
+        let text = text.get(..count).ok_or(Refusal::DraftFull)?;
+        self.insert_str(text)
     }
 
     /// Deletes the character before the place.
@@ -181,7 +166,7 @@ impl PromptState {
         if self.position == self.len {
             return DisplayAction::Nothing;
         }
-        let next = on_past_marks::<F>(self.as_slice(), self.position + 1);
+        let next = on_past(self.as_slice(), self.position + 1, |c| is_mark::<F>(c));
         self.move_to(next)
     }
 
@@ -190,7 +175,7 @@ impl PromptState {
         ensures after { draft_of self.new ≡ moving (left_of F.Font.columns) (draft_of self.old) }
         ensures answer_is { result ≡ answer_by (left_of F.Font.columns) (draft_of self.old) }
     {
-        let prev = back_past_marks::<F>(self.as_slice(), self.position);
+        let prev = back_past(self.as_slice(), self.position, |c| is_mark::<F>(c)).saturating_sub(1);
         self.move_to(prev)
     }
 
@@ -258,5 +243,13 @@ impl PromptState {
         self.value.swap(place - 2, place - 1);
         self.position = place;
         DisplayAction::Redraw
+    }
+}
+
+impl Default for PromptState {
+    ghost is_default = { λ s. draft_of s ≡ draft empty_line 0 };
+
+    fn default() -> PromptState {
+        PromptState::new()
     }
 }

@@ -17,7 +17,7 @@ impl PromptState {
         ensures bound { length result.now ≤ capacity }
         ensures scalar_values { scalars result.now ≡ true }
     {
-        &self.value[0..self.len]
+        &self.value[..self.len]
     }
 
     /// The place of the cursor in the text.
@@ -40,8 +40,7 @@ impl PromptState {
     pub fn shown(&self) -> &[u32]
         ensures value { result.now ≡ shown_text (draft_of self.now) }
     {
-        let (_, shown) = self.as_slice().split_at(self.offset);
-        shown
+        &self.as_slice()[self.offset..]
     }
 
     /// The characters from the offset up to the place.
@@ -49,9 +48,7 @@ impl PromptState {
         ensures value { result.now ≡ between (draft_of self.now).offset (draft_of self.now).line.place (draft_of self.now).line.text }
         ensures bound { length result.now ≤ capacity }
     {
-        let (front, _) = self.as_slice().split_at(self.position);
-        let (_, part) = front.split_at(self.offset);
-        part
+        &self.as_slice()[self.offset..self.position]
     }
 
     /// The columns from the offset up to the place.

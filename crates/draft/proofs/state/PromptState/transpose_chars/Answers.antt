@@ -15,15 +15,11 @@ invariant_of-self c =
     let kept : scalars (take s.len c.swap.new.self) ≡ true = rw text (scalars_swapped c.min-place.result (draft_of s).line.text s.ok.4) in
     record { ok = (omega arith, omega arith, omega arith, omega arith, kept) }
 
-pub returns : goal.returns
-returns c =
+pub returns-clause-after : goal.returns-clause-after
+returns-clause-after c =
     let s = c.args.self.now in
     let size : length (draft_of s).line.text ≡ s.len = length-take-le s.len s.value (omega arith) in
     let yes : can_swap (draft_of s).line ≡ true = grind (arith, nat_tests) in
     let place : min (s.position + 1) (length (draft_of s).line.text) ≡ c.min-place.result = omega arith in
-    let offset : s.offset ≡ min s.offset c.min-place.result = omega arith in
     let text = ap (take s.len) (c.swap.ensures.by_index.3 0) ∙ text_swapped s.value s.len c.min-place.result (omega arith) (omega arith) in
-    record {
-      after = rw (yes, place) (same_draft _ _ _ _ _ _ text refl offset);
-      answer_is = rw yes;
-    }
+    rw (yes, place) (same_draft _ _ _ _ _ _ text refl (omega arith))
