@@ -1,6 +1,6 @@
 -- Bytes are cut at the first 0A.
 use Rattle.std.proofs.Common.{◌≡◌, ℕ, suc, ◌+◌, ◌<◌, false, eqb, List, [], ◌∷◌, ◌++◌, length, get_or, take, drop, sym, refl, ap, ◌∙◌, append_assoc, append-nil, arith}
-use Rattle.std.proofs.lemmas.List.{take-append-drop, drop_more, drop_all, get_or-take, length-take-le}
+use Rattle.std.proofs.lemmas.List.{take-append-drop, drop_more, get_or-take, length-take-le}
 use Rattle.std.proofs.lemmas.Bool.{ne_eqb}
 use Rattle.history.specs.Lines.{newline, without_return, unless_empty, lines_after, lines, NoNewline, LinesLaws}
 
@@ -22,18 +22,18 @@ pub lines_laws : LinesLaws
 unfolding lines
 lines_laws = record { ended = piece_ended []; unended = piece_unended [] }
 
-pub no_lines : lines [] ≡ []
+pub no_lines : (bytes : List ℕ) → length bytes ≡ 0 → lines bytes ≡ []
 unfolding lines
-no_lines = refl
+no_lines [] none = refl
+no_lines (b ∷ bs) none = absurd (omega arith)
 
-module _ (bytes : List ℕ) (end : ℕ) (none_before : (k : ℕ) → k < end → get_or bytes k 0 ≡ newline → ⊥) where
-  pub cut_nowhere : end ≡ length bytes → lines bytes ≡ unless_empty bytes ++ lines (drop end bytes)
-  cut_nowhere e =
-      lines_laws.unended bytes (λ k h. none_before k (omega arith)) ∙ sym (append-nil (unless_empty bytes))
-      ∙ ap (λ l. unless_empty bytes ++ l) (sym no_lines ∙ ap lines (sym (drop_all end bytes (omega arith))))
+-- no 0A: all is one piece
+pub cut_nowhere : (bytes : List ℕ) → NoNewline bytes → lines bytes ≡ unless_empty bytes ++ lines []
+cut_nowhere bytes none = lines_laws.unended bytes none ∙ sym (append-nil (unless_empty bytes)) ∙ ap (λ l. unless_empty bytes ++ l) (sym (no_lines [] refl))
 
-  pub cut_there : end < length bytes → get_or bytes end 0 ≡ newline → lines bytes ≡ unless_empty (without_return (take end bytes)) ++ lines (drop (end + 1) bytes)
-  cut_there h e =
-      let whole : bytes ≡ take end bytes ++ newline ∷ drop (end + 1) bytes = sym (take-append-drop end bytes) ∙ ap (λ l. take end bytes ++ l) (drop_more bytes end 0 h ∙ ap (λ b. b ∷ drop (end + 1) bytes) e) in
-      let size : length (take end bytes) ≡ end = length-take-le end bytes (omega arith) in
-      ap lines whole ∙ lines_laws.ended (take end bytes) (drop (end + 1) bytes) (λ k l f. none_before k (omega arith) (sym (get_or-take end bytes k 0 (omega arith)) ∙ f))
+-- the first 0A
+pub cut_there : (bytes : List ℕ) (end : ℕ) → ((k : ℕ) → k < end → get_or bytes k 0 ≡ newline → ⊥) → end < length bytes → get_or bytes end 0 ≡ newline → lines bytes ≡ unless_empty (without_return (take end bytes)) ++ lines (drop (end + 1) bytes)
+cut_there bytes end none_before h e =
+    let whole : bytes ≡ take end bytes ++ newline ∷ drop (end + 1) bytes = sym (take-append-drop end bytes) ∙ ap (λ l. take end bytes ++ l) (drop_more bytes end 0 h ∙ ap (λ b. b ∷ drop (end + 1) bytes) e) in
+    let size : length (take end bytes) ≡ end = length-take-le end bytes (omega arith) in
+    ap lines whole ∙ lines_laws.ended (take end bytes) (drop (end + 1) bytes) (λ k l f. none_before k (omega arith) (sym (get_or-take end bytes k 0 (omega arith)) ∙ f))

@@ -8,6 +8,7 @@ use Rattle.std.proofs.lemmas.List.{length-append}
 use Rattle.std.proofs.lemmas.Bool.{and_parts, and_from, cases_Bool, eqb-true, eqb-false, cond-true, cond-false, le-leb}
 use Rattle.std.proofs.lemmas.Str.{encode_ascii, encodes-append, chars-encodes, length-encode, len_utf8_bounds}
 use Rattle.std.proofs.lemmas.Bool.Decides.{nat_tests}
+use Rattle.text.specs.Hex.{hex_digit}
 use Rattle.text.specs.Utf8.{Sequence, single, pair, triple, quad, characters, well_formed}
 use Rattle.text.proofs.Sequences.{encoding_is_sequence}
 use Rattle.text.proofs.Spellings.{well_formed_decides, encoding_is_spelled}
@@ -17,7 +18,7 @@ use Rattle.history.specs.declared.loader.Loader.TheVariants.{Plain}
 use Rattle.history.specs.Limits.{longest_line, longest_spelling}
 use Rattle.history.specs.Loading.{backslash, small_x, hex_value, first_value, paired, code_of, load_from, load}
 use Rattle.history.specs.Readable.{loaded, readable}
-use Rattle.history.specs.Spelling.{is_control, hex_digit, spelled_character, spell}
+use Rattle.history.specs.Spelling.{is_control, spelled_character, spell}
 use Rattle.history.specs.Laws.{Clean, DraftText}
 use Rattle.history.proofs.Machine.{as_itself}
 

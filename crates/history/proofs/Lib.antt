@@ -1,4 +1,3 @@
-pub mod Fronts
 pub mod Cutting
 pub mod Texts
 pub mod Remaining

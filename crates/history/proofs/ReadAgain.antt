@@ -28,7 +28,7 @@ one_if_not_empty (b ∷ bs) some = refl
 -- it is a line again when a 0A ends it, unless it ends in 0D
 proper_again : (line : List ℕ) → Proper line → without_return line ≡ line → lines (ended line) ≡ line ∷ []
 proper_again line (none, some) kept =
-    lines_laws.ended line [] none ∙ (λ i. unless_empty (kept i) ++ no_lines i) ∙ append-nil (unless_empty line) ∙ one_if_not_empty line some
+    lines_laws.ended line [] none ∙ (λ i. unless_empty (kept i) ++ no_lines [] refl i) ∙ append-nil (unless_empty line) ∙ one_if_not_empty line some
 
 clean_proper : (line : List ℕ) → AllByRecursion Clean line → 0 < length line → Proper line
 clean_proper line clean some = (λ k l e. omega (arith, (All-get_or Clean line k 0 l clean).0), some)
@@ -56,7 +56,7 @@ unfolding lines
 lines_after_one line rest = ap (lines_after []) (append_assoc line (newline ∷ []) rest) ∙ lines_cut [] line rest
 
 lines_after_all : (ls : List (List ℕ)) (rest : List ℕ) → lines (ended_lines ls ++ rest) ≡ lines (ended_lines ls) ++ lines rest
-lines_after_all [] rest = ap (λ l. l ++ lines rest) (sym no_lines)
+lines_after_all [] rest = ap (λ l. l ++ lines rest) (sym (no_lines [] refl))
 lines_after_all (l ∷ ls) rest =
     ap lines (append_assoc (ended l) (ended_lines ls) rest) ∙ lines_after_one l (ended_lines ls ++ rest) ∙ ap (λ m. lines (ended l) ++ m) (lines_after_all ls rest)
     ∙ sym (append_assoc (lines (ended l)) (lines (ended_lines ls)) (lines rest)) ∙ ap (λ m. m ++ lines rest) (sym (lines_after_one l (ended_lines ls)))
@@ -112,7 +112,7 @@ lines_proper begun (b ∷ bs) none =
     shorter = cond_both (eqb (get_or begun (length begun - 1) 0) carriage_return) (take (length begun - 1) begun) begun NoNewline (λ _. no_newline_in_front begun (length begun - 1) none) (λ _. none)
 
 proper_all_again : (ls : List (List ℕ)) → AllByRecursion Proper ls → AllByRecursion (λ l. without_return l ≡ l) ls → lines (ended_lines ls) ≡ ls
-proper_all_again [] proper kept = no_lines
+proper_all_again [] proper kept = no_lines [] refl
 proper_all_again (l ∷ ls) (proper, others) (kept, more) =
     lines_after_one l (ended_lines ls) ∙ (λ i. proper_again l proper kept i ++ proper_all_again ls others more i)
 

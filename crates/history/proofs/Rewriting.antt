@@ -1,17 +1,22 @@
 -- Lines are written one after another.
-use Rattle.std.proofs.Common.{◌≡◌, ℕ, suc, ◌+◌, ◌-◌, ◌*◌, ◌<◌, ◌≤◌, true, false, cond, eqb, leb, List, [], ◌∷◌, ◌++◌, length, get_or, take, drop, set, Ok, Err, sym, refl, ap, ◌∙◌, ⊎_elim, append_assoc, append-nil, arith}
+use Rattle.std.proofs.Common.{◌≡◌, ℕ, suc, ◌+◌, ◌-◌, ◌*◌, ◌<◌, ◌≤◌, Bool, true, false, cond, eqb, leb, List, [], ◌∷◌, ◌++◌, map, length, get_or, take, drop, set, Some, None, Ok, Err, Option, sym, refl, ap, ◌∙◌, ⊎_elim, append_assoc, arith}
 use borrow.Rule.Slice.PartMut.{put_mid}
-use Rattle.std.specs.List.{AllByRecursion}
+use denote.Ref.{Bor}
+use lib.Pointwise.{pointwise}
+use Rattle.std.specs.contracts.prelude.U8PartialEq as byte
+use Rattle.std.specs.List.{AllByRecursion, last_or}
+use Rattle.std.specs.Option.{option_eq}
 use Rattle.std.specs.Str.{bytes_eq}
 use Rattle.std.proofs.ByRecursion.{kept_by_passes}
-use Rattle.std.proofs.lemmas.List.{length-append, length_push, take_at, drop_at, drop-drop, drop_more, set_at, take_all, take-append-drop, length-take-le, flat_map_more, nil_from_length, length-drop}
+use Rattle.std.proofs.lemmas.List.{length-append, length_push, take_at, drop_at, drop-drop, drop_more, set_at, take_all, length-take-le, flat_map_more, length-drop}
 use Rattle.std.proofs.lemmas.Bool.{cases_lt, and_parts, leb-true, or_from, or_left, or_right, cond-true, cond-false, le-leb, lt-leb}
+use Rattle.std.proofs.lemmas.Bool.Decides.{same_from_decides, Decides-eqb}
+use Rattle.std.proofs.lemmas.Slice.Eq.{slice_eq-Decides, bytes_eq-Decides}
 use Rattle.text.specs.declared.refusal.Refusal.TheVariants.{BufferTooShort}
 use Rattle.text.specs.Utf8.{overwritten}
 use Rattle.history.specs.Limits.{longest_history, longest_line, most_kept}
 use Rattle.history.specs.Lines.{newline, lines}
-use Rattle.history.specs.Readable.{loadable, readable, readable_lines, Leads, last_of}
-use Rattle.history.specs.declared.writing.Written.TheVariants.{NothingToAdd, Bytes}
+use Rattle.history.specs.Readable.{loadable, readable, readable_lines, last_of}
 use Rattle.history.specs.Spelling.{spell}
 use Rattle.history.specs.Writing.{ended, ended_lines, written, is_last, nothing_to_add, write_answer}
 
@@ -29,12 +34,12 @@ pub ended_lines_short : (bytes : List ℕ) → length (ended_lines (readable_lin
 unfolding readable_lines
 ended_lines_short bytes = short_ended (readable_lines bytes) (kept_by_passes readable (lines bytes))
 
-pub ended_more : (bytes line after : List ℕ) → Leads bytes line after → length (ended_lines (readable_lines bytes)) ≡ length line + 1 + length (ended_lines (readable_lines after))
-ended_more bytes line after leads =
-    ap (λ l. length (ended_lines l)) leads.lines_are ∙ length-append (ended line) (ended_lines (readable_lines after)) ∙ ap (λ n. n + length (ended_lines (readable_lines after))) (length_push line newline)
+pub ended_more : (line : List ℕ) (all others : List (List ℕ)) → all ≡ line ∷ others → length (ended_lines all) ≡ length line + 1 + length (ended_lines others)
+ended_more line all others e =
+    ap (λ l. length (ended_lines l)) e ∙ length-append (ended line) (ended_lines others) ∙ ap (λ n. n + length (ended_lines others)) (length_push line newline)
 
 -- The last line is the last of the last ones.
-pub last_of_last : (n : ℕ) (line : List ℕ) (ls : List (List ℕ)) → 0 < n → is_last line (last_of n ls) ≡ is_last line ls
+last_of_last : (n : ℕ) (line : List ℕ) (ls : List (List ℕ)) → 0 < n → is_last line (last_of n ls) ≡ is_last line ls
 last_of_last n line [] some = let e : 0 - n ≡ 0 = omega arith in rw e
 last_of_last n line (l ∷ []) some = let e : 1 - n ≡ 0 = omega arith in rw e
 last_of_last n line (l ∷ m ∷ ls) some =
@@ -45,14 +50,22 @@ last_of_last n line (l ∷ m ∷ ls) some =
     (λ (h : suc (suc (length ls)) ≤ n). let e : suc (suc (length ls)) - n ≡ 0 = omega arith in ap (λ k. is_last line (drop k (l ∷ m ∷ ls))) e)
     (cases_lt n (suc (suc (length ls))))
 
-pub last_found : (line bytes found after : List ℕ) (ls : List (List ℕ)) → readable_lines bytes ≡ last_of 1 ls → Leads bytes found after → bytes_eq line found ≡ is_last line ls
-last_found line bytes found after ls e leads =
-    let size : length (last_of 1 ls) ≤ 1 = omega (arith, length-drop (length ls - 1) ls) in
-    let none : readable_lines after ≡ [] = nil_from_length (readable_lines after) (omega (arith, ap length e, ap length leads.lines_are)) in
-    sym (ap (λ l. is_last line (found ∷ l)) none) ∙ ap (is_last line) (sym leads.lines_are ∙ e) ∙ last_of_last 1 line ls (omega arith)
+-- Where `last` of the lines is compared with a line.
+same_bytes : (xs ys : List ℕ) → pointwise byte.TheImpl.ghosts.eq xs ys ≡ bytes_eq ys xs
+same_bytes xs ys =
+    let other = bytes_eq-Decides ys xs in
+    same_from_decides _ _ (slice_eq-Decides Decides-eqb xs ys _ refl) (λ t. sym (other.0 t), λ e. other.1 (sym e))
 
-pub last_not_found : (line bytes : List ℕ) (ls : List (List ℕ)) → readable_lines bytes ≡ last_of 1 ls → readable_lines bytes ≡ [] → false ≡ is_last line ls
-last_not_found line bytes ls e none = ap (is_last line) (sym none ∙ e) ∙ last_of_last 1 line ls (omega arith)
+abbrev pub same_line : Option (Bor (List ℕ)) → Option (Bor (List ℕ)) → Bool
+same_line = option_eq (λ a b. pointwise byte.TheImpl.ghosts.eq a.now b.now)
+
+last_after : (line x : Bor (List ℕ)) (xs : List (Bor (List ℕ))) → same_line (last_or (Some x) xs) (Some line) ≡ is_last line.now (map (λ l. l.now) (x ∷ xs))
+last_after line x [] = same_bytes x.now line.now
+last_after line x (y ∷ ys) = last_after line y ys
+
+pub last_found : (line : Bor (List ℕ)) (xs : List (Bor (List ℕ))) → same_line (last_or None xs) (Some line) ≡ is_last line.now (map (λ l. l.now) xs)
+last_found line [] = refl
+last_found line (x ∷ xs) = last_after line x xs
 
 -- The first `at` bytes of `out` are the lines before `rest`, and the others are as they were.
 pub record PutSoFar (lines rest old out : List ℕ) (at : ℕ) : Type 0 where
@@ -79,29 +92,22 @@ module _ (out piece : List ℕ) (at : ℕ) (fits : at + length piece ≤ length 
   piece_size =
       omega (arith, length-append (take at out) (piece ++ drop (at + length piece) out), length-append piece (drop (at + length piece) out), length-take-le at out (omega arith), length-drop (at + length piece) out)
 
-pub put_more : (lines rest line after old out next : List ℕ) (at end : ℕ) → PutSoFar lines rest old out at → Leads rest line after → length (ended_lines (readable_lines lines)) ≤ length old
+pub put_more : (lines rest line after old out next : List ℕ) (at end : ℕ) → PutSoFar lines rest old out at → readable_lines rest ≡ line ∷ readable_lines after → length (ended_lines (readable_lines lines)) ≤ length old
     → end ≡ at + length (ended line) → next ≡ take at out ++ (ended line ++ drop (at + length (ended line)) out) → PutSoFar lines after old next end
 put_more lines rest line after old out next at end sofar leads room e f =
     let piece = ended line in
-    let step = ended_more rest line after leads in
+    let step = ended_more line (readable_lines rest) (readable_lines after) leads in
     let size = length_push line newline in
     let fits : at + length piece ≤ length out = omega (arith, sofar.size, sofar.counted) in
     rw (e, f) (record {
       front =
           ap (λ l. l ++ ended_lines (readable_lines after)) (piece_front out piece at fits)
           ∙ append_assoc (take at out) piece (ended_lines (readable_lines after))
-          ∙ ap (λ l. take at out ++ ended_lines l) (sym leads.lines_are) ∙ sofar.front;
+          ∙ ap (λ l. take at out ++ ended_lines l) (sym leads) ∙ sofar.front;
       back = piece_back out piece at fits ∙ sym (drop-drop (length piece) at out) ∙ ap (drop (length piece)) sofar.back ∙ drop-drop (length piece) at old;
       size = piece_size out piece at fits ∙ sofar.size;
       counted = omega (arith, sofar.counted);
     })
-
-pub put_all : (lines rest old out : List ℕ) (at : ℕ) → PutSoFar lines rest old out at → readable_lines rest ≡ [] → length (ended_lines (readable_lines lines)) ≤ length old
-    → (at ≡ length (ended_lines (readable_lines lines))) × (out ≡ overwritten old (ended_lines (readable_lines lines)))
-put_all lines rest old out at sofar none room =
-    let all : at ≡ length (ended_lines (readable_lines lines)) = omega (arith, sofar.counted, ap (λ l. length (ended_lines l)) none) in
-    let front : take at out ≡ ended_lines (readable_lines lines) = sym (append-nil (take at out)) ∙ ap (λ l. take at out ++ ended_lines l) (sym none) ∙ sofar.front in
-    (all, sym (take-append-drop at out) ∙ (λ i. (front ∙ sym (take_all (length old) _ room)) i ++ (sofar.back ∙ ap (λ n. drop n old) all) i))
 
 -- a line that was copied to a place, and then its 0A
 pub line_put : (out line part : List ℕ) (at : ℕ) → part ≡ line → at + length line + 1 ≤ length out → set (put_mid at (at + length line - at) out part) (at + length line) newline ≡ take at out ++ (ended line ++ drop (at + length (ended line)) out)
@@ -154,16 +160,16 @@ pub nothing_if_last : (text line history kept : List ℕ) → readable_lines kep
 nothing_if_last text line history kept last f same =
     or_right _ _ (sym (last_of_last most_kept (spell text) (readable_lines history) (omega arith)) ∙ ap (is_last (spell text)) (sym last) ∙ ap (λ l. is_last l (readable_lines kept)) (sym f) ∙ sym same)
 
-pub answer_if_nothing : (text history : List ℕ) (room : ℕ) → length history ≤ longest_history → nothing_to_add text history ≡ true → Ok NothingToAdd ≡ write_answer text history room
+pub answer_if_nothing : (text history : List ℕ) (room : ℕ) → length history ≤ longest_history → nothing_to_add text history ≡ true → Ok None ≡ write_answer text history room
 answer_if_nothing text history room short none =
     sym (cond-true (leb (length history) longest_history) _ _ (le-leb _ _ short) ∙ cond-true (nothing_to_add text history) _ _ none)
 
 module _ (text history : List ℕ) (room : ℕ) (short : length history ≤ longest_history) (some : nothing_to_add text history ≡ false) where
-  asked : write_answer text history room ≡ cond (leb (length (written text history)) room) (Ok (Bytes (length (written text history)))) (Err BufferTooShort)
+  asked : write_answer text history room ≡ cond (leb (length (written text history)) room) (Ok (Some (length (written text history)))) (Err BufferTooShort)
   asked = cond-true (leb (length history) longest_history) _ _ (le-leb _ _ short) ∙ cond-false (nothing_to_add text history) _ _ some
 
   pub answer_if_short : room < length (written text history) → Err BufferTooShort ≡ write_answer text history room
   answer_if_short h = sym (asked ∙ cond-false (leb (length (written text history)) room) _ _ (lt-leb _ _ h))
 
-  pub answer_if_written : (count : ℕ) → count ≡ length (written text history) → length (written text history) ≤ room → Ok (Bytes count) ≡ write_answer text history room
-  answer_if_written count e h = ap (λ n. Ok (Bytes n)) e ∙ sym (asked ∙ cond-true (leb (length (written text history)) room) _ _ (le-leb _ _ h))
+  pub answer_if_written : (count : ℕ) → count ≡ length (written text history) → length (written text history) ≤ room → Ok (Some count) ≡ write_answer text history room
+  answer_if_written count e h = ap (λ n. Ok (Some n)) e ∙ sym (asked ∙ cond-true (leb (length (written text history)) room) _ _ (le-leb _ _ h))

@@ -1,11 +1,10 @@
 -- A text is spelled character by character.
-use Rattle.std.proofs.Common.{◌≡◌, ℕ, zero, suc, ◌+◌, ◌-◌, ◌*◌, ◌<◌, ◌≤◌, true, List, [], ◌∷◌, ◌++◌, length, get_or, take, drop, sym, refl, ap, ◌∙◌, append_assoc, append-nil, arith, rules}
-use borrow.Rule.Slice.PartMut.{put_mid}
-use lib.Utf8.{scalar, scalars}
-use Rattle.std.proofs.lemmas.List.{at_drop_more, at_drop_all, places}
-use Rattle.std.proofs.lemmas.Slice.{take-put_mid}
-use Rattle.std.proofs.lemmas.Bool.{and_parts}
-use Rattle.history.specs.Limits.{longest_spelling}
+use Rattle.std.proofs.Common.{◌≡◌, ℕ, zero, suc, ◌+◌, ◌<◌, ◌≤◌, true, List, [], ◌∷◌, ◌++◌, length, get_or, take, Ok, sym, ap, ◌∙◌, arith}
+use lib.Utf8.{scalar, scalars, encode}
+use Rattle.std.proofs.lemmas.List.{flat_map_more, take_more}
+use Rattle.std.proofs.lemmas.Bool.{and_parts, cond-true}
+use Rattle.std.proofs.lemmas.Str.{length-encode, len_utf8_bounds}
+use Rattle.text.specs.Utf8.{encoded}
 use Rattle.history.specs.Spelling.{spelled_character, spell}
 
 pub scalar_there : (text : List ℕ) (i : ℕ) → scalars text ≡ true → i < length text → scalar (get_or text i 0) ≡ true
@@ -13,34 +12,13 @@ scalar_there [] i h l = absurd (omega arith)
 scalar_there (c ∷ cs) zero h l = (and_parts (scalar c) (scalars cs) h).0
 scalar_there (c ∷ cs) (suc i) h l = scalar_there cs i (and_parts (scalar c) (scalars cs) h).1 (omega arith)
 
--- The first len of `out` spell the first i characters of the text.
-pub record SpelledSoFar (text out : List ℕ) (i len : ℕ) : Type 0 where
-  pub spells : take len out ++ spell (drop i text) ≡ spell text
-  pub short : len ≤ 4 * i
-  pub size : length out ≡ longest_spelling
+-- a scalar value has at most four bytes
+pub encoded_count : (c count : ℕ) → scalar c ≡ true → Ok count ≡ encoded c → (count ≡ length (encode c)) × (count ≤ 4)
+encoded_count c count good e =
+    let all : count ≡ length (encode c) = grind (arith, e ∙ cond-true _ _ _ good) in
+    (all, omega (arith, all, length-encode c, (len_utf8_bounds c).1))
 
-pub spelled_none : (text out : List ℕ) → length out ≡ longest_spelling → SpelledSoFar text out 0 0
-spelled_none text out e = record { spells = refl; short = omega arith; size = e }
-
-pub spelled_more : (text out part : List ℕ) (i len count : ℕ) → SpelledSoFar text out i len → i < length text → len + count ≤ longest_spelling → count ≤ 4
-    → count ≡ length (spelled_character (get_or text i 0)) → part ≡ spelled_character (get_or text i 0)
-    → SpelledSoFar text (put_mid len (len + count - len) out part) (i + 1) (len + count)
+-- one more character
+pub spelled_more : (text : List ℕ) (i : ℕ) → i < length text → spell (take i text) ++ spelled_character (get_or text i 0) ≡ spell (take (i + 1) text)
 unfolding spell
-spelled_more text out part i len count sofar inside room few e f =
-    let within : len ≤ length out = omega (arith, sofar.size) in
-    let long : length part ≡ count = ap length f ∙ sym e in
-    let front = take-put_mid len (len + count - len) out part (len + count) (omega arith) within in
-    let step : spell (drop i text) ≡ spelled_character (get_or text i 0) ++ spell (drop (i + 1) text) = at_drop_more spell text i 0 inside in
-    record {
-      spells =
-          ap (λ l. l ++ spell (drop (i + 1) text)) front ∙ append_assoc (take len out) part (spell (drop (i + 1) text))
-          ∙ ap (λ l. take len out ++ l) (ap (λ p. p ++ spell (drop (i + 1) text)) f ∙ sym step) ∙ sofar.spells;
-      short = omega (arith, sofar.short);
-      size = let whole : length out ≡ longest_spelling = sofar.size in search (rules, places);
-    }
-
-pub spelled_whole : (text out : List ℕ) (i len : ℕ) → SpelledSoFar text out i len → length text ≤ i → take len out ≡ spell text
-unfolding spell
-spelled_whole text out i len sofar end =
-    let done : spell (drop i text) ≡ [] = at_drop_all spell text i end in
-    sym (append-nil (take len out)) ∙ ap (λ l. take len out ++ l) (sym done) ∙ sofar.spells
+spelled_more text i inside = flat_map_more spelled_character [] (take i text) (get_or text i 0) ∙ ap spell (sym (take_more text i 0 inside))

@@ -4,6 +4,7 @@ pub mod Loading
 pub mod Readable
 pub mod Spelling
 pub mod Session
+pub mod Lending
 pub mod Writing
 pub mod Laws
 pub mod Examples

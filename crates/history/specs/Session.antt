@@ -1,5 +1,5 @@
 -- What a history in memory means: its drafts, and which of them is in hand.
-use Rattle.std.specs.Prelude.{ℕ, ◌+◌, ◌-◌, ◌<◌, ◌≤◌, cond, List, [], ◌∷◌, ◌++◌, map, length, take, Ok, Err, Result, nat_le, nat_lt, slice_index_or, slice_set}
+use Rattle.std.specs.Prelude.{ℕ, ◌+◌, ◌-◌, ◌<◌, ◌≤◌, cond, List, [], ◌∷◌, ◌++◌, map, length, Ok, Err, Result, nat_le, nat_lt, slice_index_or, slice_set}
 use Rattle.std.specs.List.{AllByRecursion}
 use Rattle.text.specs.declared.refusal.Refusal.{Refusal}
 use Rattle.text.specs.declared.refusal.Refusal.TheVariants.{HistoryTooLong}
@@ -18,9 +18,8 @@ pub record Session : Type 0 where
 abbrev pub session : List Draft → (hand : ℕ) → Session
 session drafts hand = record { drafts = drafts; hand = hand }
 
--- the drafts are the front of the memory that is in use
 abbrev pub session_of : PromptHistory → Session
-session_of h = session (map draft_of (take h.count h.entries)) h.active_index
+session_of h = session (map draft_of h.entries.items) h.active_index
 
 abbrev pub empty_draft : Draft
 empty_draft = draft empty_line 0

@@ -1,16 +1,13 @@
 -- How a text is spelled as a line of history: a backslash as two, a control character by its code, all else as UTF-8.
-use Rattle.std.specs.Prelude.{ℕ, ◌+◌, ◌/◌, ◌%◌, Bool, cond, ◌||◌, List, [], ◌∷◌, ◌==◌, nat_lt}
+use Rattle.std.specs.Prelude.{ℕ, ◌/◌, ◌%◌, Bool, cond, ◌||◌, List, [], ◌∷◌, ◌==◌, nat_lt}
 use Rattle.std.proofs.Math.Utf8.{encode}
 use Rattle.std.specs.List.{flat_map}
+use Rattle.text.specs.Hex.{hex_digit}
 use Rattle.history.specs.Loading.{backslash, small_x}
 
 -- 00–1F and 7F
 abbrev pub is_control : ℕ → Bool
 is_control c = nat_lt c 0x20 || c == 0x7F
-
--- an uppercase hex digit
-abbrev pub hex_digit : ℕ → ℕ
-hex_digit value = cond (nat_lt value 10) (0x30 + value) (0x37 + value)
 
 abbrev pub spelled_character : ℕ → List ℕ
 spelled_character c =

@@ -3,11 +3,11 @@ ghost use Rattle.std.specs.Prelude.{◌≡◌, ◌<◌, IfSome};
 ghost use Rattle.history.specs.Loading.{hex_value, first_value, code_of, stepped, added};
 
 /// It takes the next character as itself, or an x and two more as one code.
-pub const BACKSLASH: u32 = 0x5C;
+pub const BACKSLASH: u32 = '\\' as u32;
 
-const SMALL_X: u32 = 0x78;
+const SMALL_X: u32 = 'x' as u32;
 
-const PLUS: u32 = 0x2B;
+const PLUS: u32 = '+' as u32;
 
 /// What the characters so far ask of the next one.
 #[derive(Clone, Copy)]
@@ -27,12 +27,7 @@ fn hex_value(c: u32) -> Option<u32>
     ensures value { result ≡ hex_value c }
     ensures bound { IfSome result (λ v. v < 16) }
 {
-    match c {
-        0x30..=0x39 => Some(c - 0x30),
-        0x41..=0x46 => Some(c - 0x37),
-        0x61..=0x66 => Some(c - 0x57),
-        _ => None,
-    }
+    char::from_u32(c)?.to_digit(16)
 }
 
 /// The value of the first of two hex places, where a + counts as 0.
@@ -47,10 +42,7 @@ fn first_value(c: u32) -> Option<u32>
 fn code_of(first: u32, second: u32) -> Option<u32>
     ensures value { result ≡ code_of first second }
 {
-    match (first_value(first), hex_value(second)) {
-        (Some(high), Some(low)) => Some(high * 16 + low),
-        _ => None,
-    }
+    Some(first_value(first)? * 16 + hex_value(second)?)
 }
 
 impl Loader {
@@ -59,28 +51,15 @@ impl Loader {
         ensures after { self.new ≡ stepped self.old c }
         ensures answer_is { result ≡ added self.old c }
     {
-        match *self {
-            Loader::Plain if c == BACKSLASH => {
-                *self = Loader::AfterBackslash;
-                None
-            }
-            Loader::Plain => Some(c),
-            Loader::AfterBackslash if c == SMALL_X => {
-                *self = Loader::TwoWanted;
-                None
-            }
-            Loader::AfterBackslash => {
-                *self = Loader::Plain;
-                Some(c)
-            }
-            Loader::TwoWanted => {
-                *self = Loader::OneWanted(c);
-                None
-            }
-            Loader::OneWanted(first) => {
-                *self = Loader::Plain;
-                code_of(first, c)
-            }
-        }
+        let (next, added) = match (*self, c) {
+            (Loader::Plain, BACKSLASH) => (Loader::AfterBackslash, None),
+            (Loader::Plain, _) => (Loader::Plain, Some(c)),
+            (Loader::AfterBackslash, SMALL_X) => (Loader::TwoWanted, None),
+            (Loader::AfterBackslash, _) => (Loader::Plain, Some(c)),
+            (Loader::TwoWanted, _) => (Loader::OneWanted(c), None),
+            (Loader::OneWanted(first), _) => (Loader::Plain, code_of(first, c)),
+        };
+        *self = next;
+        added
     }
 }

@@ -1,65 +1,57 @@
 // How a draft is saved: its text, spelled in one line of bytes.
-ghost use Rattle.std.specs.Prelude.{◌≡◌, ◌<◌, ◌≤◌, true, length, take};
+ghost use Rattle.std.specs.Prelude.{◌≡◌, ◌+◌, ◌≤◌, ◌++◌, true};
 ghost use Rattle.std.proofs.Math.Utf8.{scalar};
+ghost use Rattle.arrayvec.specs.ArrayVec.{array_vec_len};
 ghost use Rattle.draft.specs.Draft.{draft_of};
 ghost use Rattle.history.specs.Limits.{longest_spelling};
-ghost use Rattle.history.specs.Spelling.{hex_digit, spelled_character, spell};
+ghost use Rattle.history.specs.Spelling.{spelled_character, spell};
 
 use crate::loader::BACKSLASH;
+use arrayvec::ArrayVec;
 use draft::state::PromptState;
+use text::hex::hex_digit;
 use text::utf8::encode;
 
 /// The bytes that a spelling has at most: four for each character.
 pub const LONGEST_SPELLING: usize = 1024;
 
-/// An uppercase hex digit.
-fn hex_digit(value: u8) -> u8
-    requires below_16 { value < 16 }
-    ensures value { result ≡ hex_digit value }
-{
-    if value < 10 {
-        b'0' + value
-    } else {
-        b'A' - 10 + value
-    }
-}
-
-/// Spells a character in the front of `out`, and tells how many bytes it takes.
-fn spell_character(c: u32, out: &mut [u8; 4]) -> usize
+/// Adds the spelling of a character: at most four bytes.
+fn put_character(c: u32, out: &mut ArrayVec<u8, LONGEST_SPELLING>)
     requires is_scalar { scalar c ≡ true }
-    ensures value { result ≡ length (spelled_character c) }
-    ensures bytes_are { take result out.new ≡ spelled_character c }
-    ensures bound { result ≤ 4 }
+    requires room { array_vec_len out.old + 4 ≤ longest_spelling }
+    ensures after { out.new.items ≡ out.old.items ++ spelled_character c }
+    ensures few { array_vec_len out.new ≤ array_vec_len out.old + 4 }
 {
     match c {
         BACKSLASH => {
-            *out = [b'\\', b'\\', 0, 0];
-            2
+            out.push(b'\\');
+            out.push(b'\\');
         }
         0x00..=0x1F | 0x7F => {
             let code = c as u8;
-            *out = [b'\\', b'x', hex_digit(code / 16), hex_digit(code % 16)];
-            4
+            let (high, low) = (code / 16, code % 16);
+            out.push(b'\\');
+            out.push(b'x');
+            out.push(hex_digit(high));
+            out.push(hex_digit(low));
         }
-        _ => match encode(c, out) {
-            Ok(count) => count,
-            Err(_) => unreachable(),
-        },
+        _ => {
+            let mut bytes = [0; 4];
+            if let Ok(count) = encode(c, &mut bytes) {
+                let _ = out.try_extend_from_slice(&bytes[..count]);
+            }
+        }
     }
 }
 
-/// Spells a draft's text in the front of `out`, and tells how many bytes it takes.
-pub fn spell(draft: &PromptState, out: &mut [u8; LONGEST_SPELLING]) -> usize
-    ensures value { result ≡ length (spell (draft_of draft.now).line.text) }
-    ensures bytes_are { take result out.new ≡ spell (draft_of draft.now).line.text }
-    ensures bound { result ≤ longest_spelling }
+/// The spelling of a draft's text.
+#[tactic(auto, using(crate::proofs::Saving::scalar_there, crate::proofs::Saving::spelled_more), unfolding(crate::specs::Spelling::spell))]
+pub fn spell(draft: &PromptState) -> ArrayVec<u8, LONGEST_SPELLING>
+    ensures value { result.items ≡ spell (draft_of draft.now).line.text }
 {
-    let mut len = 0;
+    let mut out = ArrayVec::new();
     for c in draft.as_slice() {
-        let mut piece = [0; 4];
-        let count = spell_character(*c, &mut piece);
-        out[len..len + count].copy_from_slice(&piece[0..count]);
-        len += count;
+        put_character(*c, &mut out);
     }
-    len
+    out
 }

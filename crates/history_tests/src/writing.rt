@@ -1,6 +1,6 @@
 // What is written into a lent buffer.
 use crate::makes::{numbered, repeated, typed};
-use history::writing::{Written, write};
+use history::writing::write;
 use std::process::Abort;
 use std::test::Fail;
 use text::refusal::Refusal;
@@ -13,7 +13,7 @@ fn same(bytes: &[u8], expected: &[u8]) -> bool {
 fn writes(rt: &impl Abort, text: &[u32], history: &[u8], bytes: &[u8]) -> Result<(), Fail> {
     let mut out = [0xEE; 64];
     let written = write(&typed(text)?, history, &mut out)?;
-    assert_eq!(rt; written, Written::Bytes(bytes.len()));
+    assert_eq!(rt; written, Some(bytes.len()));
     let Some(front) = out.get(0..bytes.len()) else {
         return Err(Fail::new("too many bytes"));
     };
@@ -40,14 +40,8 @@ fn a_line_is_added(rt: HostRuntime) -> Result<(), Fail> {
 #[test]
 fn nothing_to_add(rt: HostRuntime) -> Result<(), Fail> {
     let mut out = [0xEE; 4];
-    assert_eq!(rt;
-        write(&typed(&[])?, b"a\n", &mut out)?,
-        Written::NothingToAdd
-    );
-    assert_eq!(rt;
-        write(&typed(&[0x62])?, b"a\nb\n\xFF\n", &mut out)?,
-        Written::NothingToAdd
-    );
+    assert_eq!(rt; write(&typed(&[])?, b"a\n", &mut out)?, None);
+    assert_eq!(rt; write(&typed(&[0x62])?, b"a\nb\n\xFF\n", &mut out)?, None);
     assert!(rt; out == [0xEE; 4]);
     Ok(())
 }
@@ -56,7 +50,7 @@ fn nothing_to_add(rt: HostRuntime) -> Result<(), Fail> {
 fn a_full_buffer_and_one_short(rt: HostRuntime) -> Result<(), Fail> {
     let draft = typed(&[0x62])?;
     let mut full = [0xEE; 4];
-    assert_eq!(rt; write(&draft, b"a\n", &mut full)?, Written::Bytes(4));
+    assert_eq!(rt; write(&draft, b"a\n", &mut full)?, Some(4));
     assert!(rt; full == *b"a\nb\n");
     let mut short = [0xEE; 3];
     assert!(rt; write(&draft, b"a\n", &mut short) == Err(Refusal::BufferTooShort));
@@ -70,7 +64,7 @@ fn thirty_lines_are_kept(rt: HostRuntime) -> Result<(), Fail> {
     let mut out = [0xEE; 160];
     assert_eq!(rt;
         write(&typed(&[0x62])?, history.as_slice(), &mut out)?,
-        Written::Bytes(152)
+        Some(152)
     );
     assert!(rt; same(&out[0..5], b"0001\n"));
     assert!(rt; same(&out[145..153], b"0030\nb\n\xEE"));
@@ -82,10 +76,7 @@ fn longest_history(rt: HostRuntime) -> Result<(), Fail> {
     let mut history = repeated(rt.alloc(), b"a\n", 32768)?;
     let draft = typed(&[0x62])?;
     let mut out = [0xEE; 62];
-    assert_eq!(rt;
-        write(&draft, history.as_slice(), &mut out)?,
-        Written::Bytes(62)
-    );
+    assert_eq!(rt; write(&draft, history.as_slice(), &mut out)?, Some(62));
     history.extend_from_slice(b"a")?;
     assert!(rt; write(&draft, history.as_slice(), &mut []) == Err(Refusal::HistoryTooLong));
     Ok(())

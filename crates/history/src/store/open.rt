@@ -1,13 +1,15 @@
 // A session begins with the drafts of the last lines of history.
-ghost use Rattle.std.specs.Prelude.{◌≡◌, ◌<◌, true, map, length, take, drop};
+ghost use Rattle.std.specs.Prelude.{◌≡◌, ◌<◌, true, map};
+ghost use Rattle.arrayvec.specs.ArrayVec.{array_vec_len};
 ghost use Rattle.draft.specs.Draft.{draft_of};
 ghost use Rattle.history.specs.Limits.{most_drafts};
-ghost use Rattle.history.specs.Readable.{loaded, readable, readable_lines};
-ghost use Rattle.history.specs.Session.{remembered, open_answer, told};
+ghost use Rattle.history.specs.Readable.{loaded, readable};
+ghost use Rattle.history.specs.Session.{remembered, remembered_texts, open_answer, told};
 
 use super::{LONGEST_HISTORY, MOST_DRAFTS, PromptHistory};
-use crate::readable::{last_lines, load, next_readable};
-use draft::state::{CAPACITY, PromptState};
+use crate::readable::{ReadableLines, last_lines, load};
+use arrayvec::ArrayVec;
+use draft::state::PromptState;
 use text::refusal::Refusal;
 
 /// The lines of history that become drafts at most.
@@ -18,30 +20,24 @@ fn remembered_draft(line: &[u8]) -> PromptState
     requires is_readable { readable line.now ≡ true }
     ensures value { draft_of result ≡ remembered (loaded line.now) }
 {
-    let mut text = [0; CAPACITY];
     let mut draft = PromptState::new();
-    let Some(len) = load(line, &mut text) else {
-        return draft;
-    };
-    let _ = draft.insert_str(&text[0..len]);
+    if let Some(text) = load(line) {
+        let _ = draft.insert_str(text.as_slice());
+    }
     draft
 }
 
-/// Makes drafts of the readable lines, from the first entry on, and tells how many.
-fn remember(lines: &[u8], entries: &mut [PromptState; MOST_DRAFTS]) -> usize
-    requires few { length (readable_lines lines.now) < most_drafts }
-    ensures value { result ≡ length (readable_lines lines.now) }
-    ensures drafts_are { map draft_of (take result entries.new) ≡ map remembered (map loaded (readable_lines lines.now)) }
-    ensures others_kept { drop result entries.new ≡ drop result entries.old }
+/// The drafts of the last readable lines.
+#[tactic(auto, using(crate::proofs::Remaining::first_is_readable))]
+fn remembered_drafts(history: &[u8]) -> ArrayVec<PromptState, MOST_DRAFTS>
+    ensures drafts_are { map draft_of result.items ≡ map remembered (remembered_texts history.now) }
+    ensures few { array_vec_len result < most_drafts }
 {
-    let mut rest = lines;
-    let mut count = 0;
-    while let Some((line, after)) = next_readable(rest) {
-        entries[count] = remembered_draft(line);
-        count += 1;
-        rest = after;
+    let mut drafts = ArrayVec::new();
+    for line in ReadableLines::new(last_lines(history, MOST_REMEMBERED)) {
+        drafts.push(remembered_draft(line));
     }
-    count
+    drafts
 }
 
 impl PromptHistory {
@@ -52,11 +48,11 @@ impl PromptHistory {
         if history.len() > LONGEST_HISTORY {
             return Err(Refusal::HistoryTooLong);
         }
-        let mut entries = [PromptState::new(); MOST_DRAFTS];
-        let active_index = remember(last_lines(history, MOST_REMEMBERED), &mut entries);
+        let mut entries = remembered_drafts(history);
+        let active_index = entries.len();
+        entries.push(PromptState::new());
         Ok(PromptHistory {
             entries,
-            count: active_index + 1,
             active_index,
         })
     }

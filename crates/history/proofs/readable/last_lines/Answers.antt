@@ -1,10 +1,14 @@
-use Rattle.std.proofs.Common.{sym, ◌∙◌, arith}
-use Rattle.history.proofs.Remaining.{dropped_more, dropped_none}
+use Rattle.std.proofs.Common.{◌≡◌, ◌+◌, ◌-◌, drop, ap, ◌∙◌, inl, arith}
+use Rattle.history.specs.Readable.{readable_lines}
+use Rattle.history.proofs.Remaining.{few_readable, dropped_more}
 use Rattle.history.proofs.readable.last_lines.Goals as goal
 
-pub loop-surplus-preserved : goal.loop-surplus-preserved
-loop-surplus-preserved c =
-    sym (dropped_more c.loop-surplus.rest.now c.in-Some.field-0-0.now c.in-Some.after.now c.loop-surplus.surplus c.in-Some.ensures.value (omega arith)) ∙ c.loop-surplus.invariant
+pub count-requires-clause-fits : goal.count-requires-clause-fits
+count-requires-clause-fits c = inl (omega (arith, few_readable c.args.bytes.now, few_readable c.new.result.lines.rest.now))
 
-pub returns-in_default : goal.returns-in_default
-returns-in_default c = record { value = sym (dropped_none c.loop-surplus.rest.now c.loop-surplus.surplus c.in_default.ensures.value) ∙ c.loop-surplus.invariant }
+pub loop-skipped-preserved : goal.loop-skipped-preserved
+loop-skipped-preserved c =
+    let left = c.saturating_sub-surplus.result - c.loop-skipped._skipped in
+    let one_less : c.saturating_sub-surplus.result - (c.loop-skipped._skipped + 1) ≡ left - 1 = omega arith in
+    ap (λ n. drop n (readable_lines c.next.new.self.lines.rest.now)) one_less
+    ∙ dropped_more (λ s. readable_lines s.lines.rest.now) c.loop-skipped.kept c.next.new.self c.next.result left c.next.ensures.steps (omega arith) ∙ c.loop-skipped.invariant

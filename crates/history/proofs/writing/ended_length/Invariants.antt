@@ -4,7 +4,9 @@ use Rattle.history.specs.Writing.{ended_lines}
 use Rattle.history.proofs.writing.ended_length.Given as goal
 
 abbrev pub invariant-loop-line : goal.invariant-loop-line
-invariant-loop-line l = l.total + length (ended_lines (readable_lines l.rest)) ≡ length (ended_lines (readable_lines l.lines))
-
-abbrev pub decreases-loop-line : goal.decreases-loop-line
-decreases-loop-line l = length l.rest
+invariant-loop-line l =
+    record {
+      can_next : (goal.iterator-loop-line).can_next l.line-iterator;
+      is_finite : (goal.iterator-loop-line).is_finite l.line-iterator;
+      counted : l.total + length (ended_lines (readable_lines l.line-iterator.lines.rest.now)) ≡ length (ended_lines (readable_lines l.lines));
+    }

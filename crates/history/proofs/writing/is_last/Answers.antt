@@ -1,17 +1,13 @@
-use Rattle.std.proofs.Common.{◌∙◌}
-use Rattle.std.specs.Str.{bytes_eq}
-use Rattle.std.proofs.lemmas.Slice.Eq.{slice_eq-Decides, bytes_eq-Decides}
-use Rattle.std.proofs.lemmas.Bool.Decides.{same_from_decides, Decides-eqb}
+use Rattle.std.proofs.Common.{Some, ap, ◌∙◌}
 use Rattle.history.specs.Readable.{readable_lines}
-use Rattle.history.proofs.Rewriting.{last_found, last_not_found}
+use Rattle.history.specs.Writing.{is_last}
+use Rattle.history.proofs.Remaining.{given_whole}
+use Rattle.history.proofs.Rewriting.{same_line, last_found}
 use Rattle.history.proofs.writing.is_last.Goals as goal
 
-pub returns-in-Some : goal.returns-in-Some
-returns-in-Some c =
-    let line = c.args.line.now in
-    let found = c.in-Some.last.now in
-    let same = same_from_decides c.eq.result (bytes_eq line found) (slice_eq-Decides Decides-eqb line found c.eq.result c.eq.ensures) (bytes_eq-Decides line found) in
-    record { value = same ∙ last_found line c.last_lines.result.now found c.in-Some.field-0-1.now (readable_lines c.args.lines.now) c.last_lines.ensures.value c.in-Some.ensures.value }
-
-pub returns-in-None : goal.returns-in-None
-returns-in-None c = record { value = last_not_found c.args.line.now c.last_lines.result.now (readable_lines c.args.lines.now) c.last_lines.ensures.value c.in-None.ensures.value }
+pub returns : goal.returns
+returns c =
+    let line = c.args.line in
+    let read = c.last.ensures.ran in
+    let all = given_whole (λ s. readable_lines s.lines.rest.now) read.0 c.new.result read.1 ∙ ap readable_lines c.new.ensures.starts_at in
+    record { value = c.eq.ensures ∙ ap (λ o. same_line o (Some line)) read.2 ∙ last_found line read.0 ∙ ap (is_last line.now) all }

@@ -1,42 +1,34 @@
-use Rattle.std.proofs.Common.{◌≡◌, ◌+◌, ◌≤◌, true, false, length, refl, ap, ◌∙◌, arith}
+use Rattle.std.proofs.Common.{◌≡◌, ◌+◌, ◌≤◌, true, false, length, ap, ◌∙◌, arith}
 use Rattle.draft.specs.Draft.{draft_of}
-use Rattle.history.specs.Readable.{readable_lines}
 use Rattle.history.specs.Writing.{nothing_to_add, written}
-use Rattle.history.proofs.Fronts.{from_the_start}
-use Rattle.history.proofs.Rewriting.{few_kept, written_size, written_over, something_to_add, nothing_if_empty, nothing_if_last, answer_if_nothing, answer_if_short, answer_if_written}
+use Rattle.history.proofs.Rewriting.{written_size, written_over, something_to_add, nothing_if_empty, nothing_if_last, answer_if_nothing, answer_if_short, answer_if_written}
 use Rattle.history.proofs.writing.write.Goals as goal
 use Rattle.history.proofs.writing.write.Goals.{After-ended_length, then-is_empty-via-then-is_empty, then-is_empty-via-else-is_empty+then-is_last}
 
 some_to_add : (c : After-ended_length) → nothing_to_add (draft_of c.args.draft.now).line.text c.args.history.now ≡ false
 some_to_add c =
     something_to_add (draft_of c.args.draft.now).line.text c.as_slice.result.now _ c.args.history.now c.last_lines-kept.result.now c.last_lines-kept.ensures.value
-    c.as_slice.ensures.value c.if-is_empty.ensures (from_the_start c.spell-len.result c.spell-len.new.out ∙ c.spell-len.ensures.bytes_are) c.if-is_last.ensures.value
+    c.as_slice.ensures.value c.if-is_empty.ensures (c.as_slice-line.ensures.value ∙ c.spell-spelling.ensures.value) c.if-is_last.ensures.value
 
-size_is : (c : After-ended_length) → c.ended_length.result + c.spell-len.result + 1 ≡ length (written (draft_of c.args.draft.now).line.text c.args.history.now)
+size_is : (c : After-ended_length) → c.ended_length.result + length c.as_slice-line.result.now + 1 ≡ length (written (draft_of c.args.draft.now).line.text c.args.history.now)
 size_is c =
-    omega (arith, written_size (draft_of c.args.draft.now).line.text c.args.history.now c.last_lines-kept.result.now c.last_lines-kept.ensures.value, c.ended_length.ensures.value, c.spell-len.ensures.value)
+    omega (arith, written_size (draft_of c.args.draft.now).line.text c.args.history.now c.last_lines-kept.result.now c.last_lines-kept.ensures.value, c.ended_length.ensures.value, ap length (c.as_slice-line.ensures.value ∙ c.spell-spelling.ensures.value))
 
-pub returns-then-is_empty : goal.returns-then-is_empty
-returns-then-is_empty c =
+pub returns-then-is_empty-clause-answer_is : goal.returns-then-is_empty-clause-answer_is
+returns-then-is_empty-clause-answer_is c =
     let text = (draft_of c.args.draft.now).line.text in
     let history = c.args.history.now in
     let none : nothing_to_add text history ≡ true =
     elim c.then-is_empty.branch [
       | then-is_empty-via-then-is_empty w ↦ nothing_if_empty text c.as_slice.result.now history c.as_slice.ensures.value w.if-is_empty.ensures
-      | then-is_empty-via-else-is_empty+then-is_last w ↦ nothing_if_last text _ history c.last_lines-kept.result.now c.last_lines-kept.ensures.value (from_the_start c.spell-len.result c.spell-len.new.out ∙ c.spell-len.ensures.bytes_are) w.if-is_last.ensures.value
+      | then-is_empty-via-else-is_empty+then-is_last w ↦ nothing_if_last text _ history c.last_lines-kept.result.now c.last_lines-kept.ensures.value (c.as_slice-line.ensures.value ∙ c.spell-spelling.ensures.value) w.if-is_last.ensures.value
     ] in
-    record { answer_is = answer_if_nothing text history (length c.args.out.now) c.if-history-gt-LONGEST_HISTORY.false none; after = refl }
+    answer_if_nothing text history (length c.args.out.now) c.if-history-gt-LONGEST_HISTORY.false none
 
-pub ended_length-requires : goal.ended_length-requires
-ended_length-requires c = record { few = omega (arith, ap length c.last_lines-kept.ensures.value, few_kept (readable_lines c.args.history.now)) }
-
-pub returns-then-size-out : goal.returns-then-size-out
-returns-then-size-out c =
-    let there = (goal.at.returns-then-size-out c).After-ended_length in
-    record {
-      answer_is = answer_if_short (draft_of c.args.draft.now).line.text c.args.history.now (length c.args.out.now) c.if-history-gt-LONGEST_HISTORY.false (some_to_add there) (omega (arith, size_is there));
-      after = refl;
-    }
+pub returns-then-size-out-clause-answer_is : goal.returns-then-size-out-clause-answer_is
+returns-then-size-out-clause-answer_is c =
+    let there = (goal.at.returns-then-size-out-clause-answer_is c).After-ended_length in
+    answer_if_short (draft_of c.args.draft.now).line.text c.args.history.now (length c.args.out.now) c.if-history-gt-LONGEST_HISTORY.false (some_to_add there) (omega (arith, size_is there))
 
 pub returns : goal.returns
 returns c =
@@ -46,5 +38,5 @@ returns c =
     let room : length (written text history) ≤ length c.args.out.now = omega (arith, size_is there) in
     record {
       answer_is = answer_if_written text history (length c.args.out.now) c.if-history-gt-LONGEST_HISTORY.false (some_to_add there) _ (size_is there) room;
-      after = written_over text history c.last_lines-kept.result.now c.last_lines-kept.ensures.value c.args.out.now c.put_lines-start.new.out c.put_line.new.out _ c.put_lines-start.result room (from_the_start c.spell-len.result c.spell-len.new.out ∙ c.spell-len.ensures.bytes_are) c.put_lines-start.ensures.value c.put_lines-start.ensures.after c.put_line.ensures.after;
+      after = written_over text history c.last_lines-kept.result.now c.last_lines-kept.ensures.value c.args.out.now c.put_lines-start.new.out c.put_line.new.out _ c.put_lines-start.result room (c.as_slice-line.ensures.value ∙ c.spell-spelling.ensures.value) c.put_lines-start.ensures.value c.put_lines-start.ensures.after c.put_line.ensures.after;
     }
