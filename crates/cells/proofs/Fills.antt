@@ -1,22 +1,16 @@
--- A character that fits, and one that is lost.
-use Rattle.std.proofs.Common.{◌≡◌, ℕ, ◌+◌, ◌<◌, ◌≤◌, leb, List, sym, arith}
+-- Cells that fit, and cells that are lost.
+use Rattle.std.proofs.Common.{◌≡◌, ℕ, ◌+◌, ◌<◌, ◌≤◌, leb, List, sym, ◌∙◌}
 use Rattle.std.proofs.lemmas.Bool.{cond-true, cond-false, le-leb, lt-leb}
 use Rattle.glass.specs.declared.Pen.{Pen}
-use Rattle.cells.specs.declared.table.Slot.{Slot}
-use Rattle.cells.specs.declared.table.Mark.{Mark}
-use Rattle.glass.specs.Row.{Cell, width_of}
+use Rattle.glass.specs.Row.{Row, Cell, width_of}
 use Rattle.glass.specs.Calls.{at_column, with_cells, if_it_fits}
-use Rattle.cells.specs.Slots.{row_of}
-use Rattle.cells.proofs.SlotCells.{length_cells}
 
-pub fits : (n : ℕ) (cells : List Cell) (slots : List Slot) (w : ℕ) (ms : List Mark) (p : Pen) (k : ℕ) → k + n ≤ w
-    → at_column (k + n) (with_cells cells (row_of slots w ms p k)) ≡ if_it_fits n cells (row_of slots w ms p k)
-fits n cells slots w ms p k h =
-    let e = length_cells slots w ms in
-    sym (cond-true (leb (k + n) (width_of (row_of slots w ms p k))) (at_column (k + n) (with_cells cells (row_of slots w ms p k))) (row_of slots w ms p k) (le-leb (k + n) (width_of (row_of slots w ms p k)) (omega arith)))
+same_row : {cs ds : List Cell} {p q : Pen} {j k : ℕ} → cs ≡ ds → p ≡ q → j ≡ k → ◌≡◌ {A = Row} (record { cells = cs; pen = p; column = j }) (record { cells = ds; pen = q; column = k })
+same_row a b d = cc
 
-pub lost : (n : ℕ) (cells : List Cell) (slots : List Slot) (w : ℕ) (ms : List Mark) (p : Pen) (k : ℕ) → w < k + n
-    → row_of slots w ms p k ≡ if_it_fits n cells (row_of slots w ms p k)
-lost n cells slots w ms p k h =
-    let e = length_cells slots w ms in
-    sym (cond-false (leb (k + n) (width_of (row_of slots w ms p k))) (at_column (k + n) (with_cells cells (row_of slots w ms p k))) (row_of slots w ms p k) (lt-leb (k + n) (width_of (row_of slots w ms p k)) (omega arith)))
+pub fits : (n : ℕ) (cells : List Cell) (r new : Row) → r.column + n ≤ width_of r → new.cells ≡ cells → new.pen ≡ r.pen → new.column ≡ r.column + n → new ≡ if_it_fits n cells r
+fits n cells r new h a b d =
+    same_row a b d ∙ sym (cond-true (leb (r.column + n) (width_of r)) (at_column (r.column + n) (with_cells cells r)) r (le-leb (r.column + n) (width_of r) h))
+
+pub lost : (n : ℕ) (cells : List Cell) (r : Row) → width_of r < r.column + n → r ≡ if_it_fits n cells r
+lost n cells r h = sym (cond-false (leb (r.column + n) (width_of r)) (at_column (r.column + n) (with_cells cells r)) r (lt-leb (r.column + n) (width_of r) h))

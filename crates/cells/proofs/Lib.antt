@@ -1,5 +1,4 @@
-pub mod Marks
-pub mod Gaps
+pub mod Filters
 pub mod Runs
 pub mod SlotCells
 pub mod Fills

@@ -1,8 +1,11 @@
 -- What a cell row shows, and what it has to spare.
-use Rattle.std.specs.Prelude.{◌≡◌, ℕ, ◌-◌, true, false, cond, List, length, take, Some, None, sum_by, Option, Result, MatchResult, nat_lt, slice_index_or}
+use Rattle.std.specs.Prelude.{◌≡◌, ℕ, ◌+◌, ◌-◌, true, false, cond, List, [], ◌∷◌, length, Some, None, sum_by, Option, Result, MatchResult, nat_lt, slice_index_or, slice_set}
+use Rattle.arrayvec.specs.ArrayVec.{array_vec_len}
 use Rattle.text.specs.declared.refusal.Refusal.{Refusal}
 use Rattle.text.specs.declared.refusal.Refusal.TheVariants.{OutsideGlass}
-use Rattle.glass.specs.Row.{Row, Cell, blank_cell, blank_row, width_of}
+use Rattle.glass.specs.declared.Ink.{Ink}
+use Rattle.glass.specs.declared.Pen.{Pen}
+use Rattle.glass.specs.Row.{Row, Cell, cell, blank_cell, blank_row, width_of}
 use Rattle.glass.specs.Calls.{no_width}
 use Rattle.cells.specs.declared.cell_row.CellRow.{CellRow}
 use Rattle.cells.specs.declared.table.Slot.{Slot}
@@ -11,13 +14,16 @@ use Rattle.cells.specs.Slots.{row_of, most_marks}
 
 -- the mark records in use
 abbrev pub records : {F : Type 0} → CellRow F → List Mark
-records s = take s.count s.marks
+records s = s.marks.table.items
+
+abbrev pub mark_records : {F : Type 0} → CellRow F → ℕ
+mark_records s = length (records s)
 
 abbrev pub shows : {F : Type 0} → CellRow F → Row
-shows s = row_of s.slots s.width (records s) s.pen s.column
+shows s = row_of s.slots.items (array_vec_len s.slots) (records s) s.pen s.column
 
 abbrev pub spare_of : {F : Type 0} → CellRow F → ℕ
-spare_of s = most_marks - s.count
+spare_of s = most_marks - mark_records s
 
 -- how many marks a row has
 abbrev pub marks_on : Row → ℕ
@@ -36,3 +42,11 @@ slot_of k = record { ink = k.ink; pen = k.pen }
 -- the cell in a column without its marks; none past the width
 abbrev pub slot_shown : Row → (column : ℕ) → Option Slot
 slot_shown r k = cond (nat_lt k (width_of r)) (Some (slot_of (slice_index_or r.cells k blank_cell))) None
+
+-- cells with inks one after another from a column on
+abbrev pub with_inks : List Ink → Pen → (column : ℕ) → List Cell → List Cell
+with_inks [] p k cells = cells
+with_inks (i ∷ is) p k cells = with_inks is p (k + 1) (slice_set cells k (cell i p))
+
+abbrev pub inked : List Ink → Row → List Cell
+inked is r = with_inks is r.pen r.column r.cells

@@ -1,9 +1,12 @@
 // The cell row itself.
-ghost use Rattle.std.specs.Prelude.{◌≡◌, ◌<◌, ◌≤◌, true, length, take};
+ghost use Rattle.std.specs.Prelude.{◌≡◌, ℕ, ◌≤◌, []};
 ghost use Rattle.glass.specs.Row.{widest};
-ghost use Rattle.cells.specs.Slots.{rises, all_before, most_marks};
+ghost use Rattle.arrayvec.specs.ArrayVec.{array_vec_len};
+ghost use Rattle.cells.specs.Slots.{marks_of};
 
-use crate::table::{MARKS, Mark, Slot};
+use crate::marks::Marks;
+use crate::table::Slot;
+use arrayvec::ArrayVec;
 use glass::{Pen, WIDEST};
 use std::marker::PhantomData;
 
@@ -11,19 +14,15 @@ pub mod calls;
 pub mod filling;
 pub mod questions;
 
-/// A glass in memory of its own. The marks of all columns stand in one table, in the order of columns, and those of one
-/// column as they came. A text costs one more than it has characters, so that one record is always free.
+/// A glass in memory of its own, with a slot for each column. A text costs one more than it has characters, so that one
+/// mark record is always free.
 #[derive(Drop)]
 pub struct CellRow<F> {
-    slots: [Slot; WIDEST],
-    width: usize,
+    slots: ArrayVec<Slot, WIDEST>,
     pen: Pen,
     column: usize,
-    marks: [Mark; MARKS],
-    count: usize,
+    marks: Marks,
     font: PhantomData<F>,
-    ghost sizes: { (length slots ≡ widest) × (length marks ≡ most_marks) },
-    ghost ordered: { rises 0 (take count marks) ≡ true },
-    ghost inside: { all_before width (take count marks) ≡ true },
-    ghost within: { (1 ≤ width) × (width ≤ widest) × (column ≤ width) × (count < most_marks) },
+    ghost within: { (1 ≤ array_vec_len slots) × (array_vec_len slots ≤ widest) × (column ≤ array_vec_len slots) },
+    ghost inside: { (k : ℕ) → array_vec_len slots ≤ k → marks_of k marks.table.items ≡ [] },
 }

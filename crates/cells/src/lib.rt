@@ -2,4 +2,5 @@
 #![tactic(auto)]
 
 pub mod cell_row;
+mod marks;
 pub mod table;

@@ -1,10 +1,11 @@
 -- Calls that are sound and can be paid for are not refused.
-use Rattle.std.proofs.Common.{◌≡◌, ℕ, ◌<◌, ◌≤◌, true, false, ltb, leb, List, [], ◌∷◌, None, sym, refl, subst, ⊎_elim, arith, ltb-true, leb-true}
+use Rattle.std.proofs.Common.{◌≡◌, ℕ, ◌<◌, ◌≤◌, true, List, [], ◌∷◌, None, sym, refl, subst, arith}
 use lib.Utf8.{scalars}
+use Rattle.std.proofs.lemmas.Bool.{le-ltb, lt-leb}
 use Rattle.font.specs.declared.Columns.{Columns}
 use Rattle.glass.specs.Row.{Row, width_of}
 use Rattle.glass.specs.Calls.{GlassCall, place, pen, text, clear, reshape, apply, cost, cost_of_all, refused, Allowed}
-use Rattle.glass.proofs.Front.{decide, text_width, cleared_width}
+use Rattle.glass.proofs.Front.{text_width, cleared_width}
 
 -- a call whose arguments no row of this width refuses
 abbrev pub Sound : ℕ → GlassCall → Type 0
@@ -18,17 +19,11 @@ abbrev pub AllSound : ℕ → List GlassCall → Type 0
 AllSound w [] = Unit {0}
 AllSound w (k ∷ ks) = Sound w k × AllSound w ks
 
-leb_not : (a b : ℕ) → b < a → leb a b ≡ false
-leb_not a b h = ⊎_elim (λ (t : leb a b ≡ true). let u = leb-true _ _ t in absurd (omega arith)) (λ (t : leb a b ≡ false). t) (decide (leb a b))
-
-pub ltb_not : (a b : ℕ) → b ≤ a → ltb a b ≡ false
-ltb_not a b h = ⊎_elim (λ (t : ltb a b ≡ true). let u = ltb-true _ _ t in absurd (omega arith)) (λ (t : ltb a b ≡ false). t) (decide (ltb a b))
-
 pub sound_passes : (k : GlassCall) (w n : ℕ) → Sound w k → cost k ≤ n → refused k w n ≡ None
-sound_passes (place k) w n s h = rw (leb_not w k s, ltb_not n 1 h)
-sound_passes (pen p) w n s h = rw (ltb_not n 1 h)
-sound_passes (text cs) w n s h = rw (ltb_not n _ h, s)
-sound_passes clear w n s h = rw (ltb_not n 1 h)
+sound_passes (place k) w n s h = rw (lt-leb w k s, le-ltb n 1 h)
+sound_passes (pen p) w n s h = rw (le-ltb n 1 h)
+sound_passes (text cs) w n s h = rw (le-ltb n _ h, s)
+sound_passes clear w n s h = rw (le-ltb n 1 h)
 sound_passes (reshape v) w n s h = absurd s
 
 call_width : (columns : ℕ → Columns) (k : GlassCall) (r : Row) → Sound (width_of r) k → width_of (apply columns k r) ≡ width_of r

@@ -1,20 +1,20 @@
 -- Calls that are allowed and made one after another.
 use Rattle.std.proofs.Common.{◌≡◌, ℕ, ◌+◌, ◌<◌, ◌≤◌, Bool, true, false, cond, ltb, List, [], ◌∷◌, ◌++◌, length, get_or, take, Some, None, Option, sym, refl, ap, ◌∙◌, subst, arith, ltb-false}
 use Rattle.std.proofs.lemmas.List.{take_more, take_all}
+use Rattle.std.proofs.lemmas.Bool.{le-ltb}
 use Rattle.font.specs.declared.Columns.{Columns}
 use Rattle.text.specs.declared.refusal.Refusal.{Refusal}
 use Rattle.glass.specs.Row.{Row, width_of}
 use Rattle.glass.specs.Calls.{GlassCall, clear, apply, apply_all, cost, cost_of_all, refused, Allowed, Drew, Leads}
-use Rattle.glass.proofs.Allowed.{ltb_not}
 
 -- a reason that goes away
 passes : (a b b' : Bool) (d e : Refusal) (o : Option Refusal) → (b ≡ false → b' ≡ false) → cond a (Some d) (cond b (Some e) o) ≡ None → cond a (Some d) (cond b' (Some e) o) ≡ None
 passes true b b' d e o f h = h
-passes false true b' d e o f h = absurd (let z : ◌≡◌ {A = ℕ} 0 1 = cc in omega arith)
+passes false true b' d e o f h = cc
 passes false false b' d e o f h = rw (f refl) h
 
 refused_less : (k : GlassCall) (w n m : ℕ) → n ≤ m → refused k w n ≡ None → refused k w m ≡ None
-refused_less k w n m le h = passes _ (ltb n (cost k)) (ltb m (cost k)) _ _ _ (λ e. let u = ltb-false _ _ e in ltb_not m (cost k) (omega arith)) h
+refused_less k w n m le h = passes _ (ltb n (cost k)) (ltb m (cost k)) _ _ _ (λ e. let u = ltb-false _ _ e in le-ltb m (cost k) (omega arith)) h
 
 pub allowed_more : (columns : ℕ → Columns) (ks : List GlassCall) (r : Row) (n m : ℕ) → n ≤ m → Allowed columns ks r n → Allowed columns ks r m
 allowed_more columns [] r n m le a = tt

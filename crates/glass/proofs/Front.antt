@@ -1,8 +1,10 @@
 -- The part of a row that is left of the cursor. A text changes nothing else that a later clear does not wipe out,
 -- and what it makes of that part depends on that part alone.
-use Rattle.std.proofs.Common.{◌≡◌, ℕ, zero, suc, ◌+◌, ◌-◌, ◌<◌, ◌≤◌, Bool, true, false, cond, leb, ◌⊎◌, List, [], ◌∷◌, ◌++◌, length, get_or, take, set, replicate, Some, None, Option, sym, refl, ap, ◌∙◌, inl, inr, ⊎_elim, arith, length-append, length-set, length-take, leb-true}
+use Rattle.std.proofs.Common.{◌≡◌, ℕ, zero, suc, ◌+◌, ◌-◌, ◌<◌, ◌≤◌, true, false, cond, leb, List, [], ◌∷◌, ◌++◌, length, get_or, take, set, replicate, Some, None, Option, sym, refl, ap, ◌∙◌, ⊎_elim, arith, length-append, length-set, length-take, leb-true}
 use lib.ListN.{length-replicate}
+use Rattle.std.proofs.Math.Seq.{take-set-lt}
 use Rattle.std.proofs.lemmas.List.{take_more_set, get_or-take, take_all, append-nil, append_assoc}
+pub use Rattle.std.proofs.lemmas.Bool.{cases_Bool as decide}
 use Rattle.font.specs.declared.Columns.{Columns}
 use Rattle.font.specs.declared.Columns.TheVariants.{NoWidth, Zero, One, Two}
 use Rattle.glass.specs.declared.Pen.{Pen}
@@ -46,16 +48,6 @@ front_text columns (c ∷ cs) f = front_text columns cs (front_with (columns c) 
 abbrev pub finished : Front → Row
 finished f = record { cells = f.cells ++ replicate (f.width - f.column) blank_cell; pen = f.pen; column = f.column }
 
-pub decide : (b : Bool) → (b ≡ true) ⊎ (b ≡ false)
-decide true = inl refl
-decide false = inr refl
-
-pub take_set : {A : Type 0} (n : ℕ) (xs : List A) (k : ℕ) (v : A) → take n (set xs k v) ≡ set (take n xs) k v
-take_set zero xs k v = refl
-take_set (suc n) [] k v = refl
-take_set (suc n) (x ∷ xs) zero v = refl
-take_set {A = A} (suc n) (x ∷ xs) (suc k) v = ap (λ (ys : List A). x ∷ ys) (take_set n xs k v)
-
 marked_front : (c col : ℕ) (cells : List Cell) (k : ℕ) → k ≤ col → take col (marked c (cell_left_of k cells) cells) ≡ marked c (cell_left_of k (take col cells)) (take col cells)
 marked_front c col cells zero h = refl
 marked_front c col cells (suc k) h =
@@ -64,7 +56,7 @@ marked_front c col cells (suc k) h =
     (λ (t : is_right_half (get_or cells k blank_cell).ink ≡ true).
     rw (e, t) (marked_front c col cells k (omega arith)))
     (λ (t : is_right_half (get_or cells k blank_cell).ink ≡ false).
-    rw (e, t) (take_set col cells k (with_mark c (get_or cells k blank_cell)) ∙ ap (λ (x : Cell). set (take col cells) k (with_mark c x)) (sym e)))
+    rw (e, t) (take-set-lt col cells k (with_mark c (get_or cells k blank_cell)) (omega arith) ∙ ap (λ (x : Cell). set (take col cells) k (with_mark c x)) (sym e)))
     (decide (is_right_half (get_or cells k blank_cell).ink))
 
 two_front : (xs : List Cell) (k : ℕ) (a b : Cell) → k + 2 ≤ length xs → take (k + 2) (set (set xs k a) (k + 1) b) ≡ take k xs ++ (a ∷ b ∷ [])

@@ -1,5 +1,7 @@
 -- Where a text leaves the cursor.
-use Rattle.std.proofs.Common.{◌≡◌, ℕ, zero, suc, ◌+◌, ◌≤◌, true, false, leb, List, [], ◌∷◌, ◌++◌, length, take, refl, ⊎_elim, arith, leb-false}
+use Rattle.std.proofs.Common.{◌≡◌, ℕ, ◌+◌, ◌≤◌, true, false, leb, List, [], ◌∷◌, ◌++◌, length, take, refl, ⊎_elim, arith, leb-false}
+use Rattle.std.specs.List.{AllByRecursion}
+use Rattle.std.proofs.ByRecursion.{All-append, All-take}
 use Rattle.font.specs.declared.Columns.{Columns}
 use Rattle.font.specs.declared.Columns.TheVariants.{One}
 use Rattle.glass.specs.Row.{Row, Cell, width_of}
@@ -16,8 +18,7 @@ fits_column n cells r h =
 
 -- each character takes one column
 abbrev pub AllOne : (ℕ → Columns) → List ℕ → Type 0
-AllOne columns [] = Unit {0}
-AllOne columns (c ∷ cs) = (columns c ≡ One) × AllOne columns cs
+AllOne columns cs = AllByRecursion (λ c. columns c ≡ One) cs
 
 pub text_column : (columns : ℕ → Columns) (cs : List ℕ) (r : Row) → AllOne columns cs → r.column + length cs ≤ width_of r → (with_text columns cs r).column ≡ r.column + length cs
 text_column columns [] r a h = omega arith
@@ -28,10 +29,7 @@ text_column columns (c ∷ cs) r a h =
     omega arith
 
 pub all_append : (columns : ℕ → Columns) (xs ys : List ℕ) → AllOne columns xs → AllOne columns ys → AllOne columns (xs ++ ys)
-all_append columns [] ys a b = b
-all_append columns (x ∷ xs) ys a b = (a.0, all_append columns xs ys a.1 b)
+all_append columns xs ys a b = All-append (λ c. columns c ≡ One) xs ys a b
 
 pub all_take : (columns : ℕ → Columns) (n : ℕ) (xs : List ℕ) → AllOne columns xs → AllOne columns (take n xs)
-all_take columns zero xs a = tt
-all_take columns (suc n) [] a = tt
-all_take columns (suc n) (x ∷ xs) a = (a.0, all_take columns n xs a.1)
+all_take columns n xs a = All-take (λ c. columns c ≡ One) n xs a

@@ -43,10 +43,8 @@ pub fn perform_all<G: Glass>(glass: &mut G, calls: &[Call<'_>]) -> Result<(), St
     ensures performed { Performed G.Font.Font.columns G.Glass.row G.Glass.spare (map call_of calls.now) glass.old result glass.new }
     ensures keeps { StaysTied (made (map call_of calls.now) result) (G.Glass.tied glass.old) (G.Glass.tied glass.new) }
 {
-    for i in 0..calls.len() {
-        if let Err(refusal) = perform(glass, calls[i]) {
-            return Err(Stopped { made: i, refusal });
-        }
+    for (made, call) in calls.iter().enumerate() {
+        perform(glass, *call).map_err(|refusal| Stopped { made, refusal })?;
     }
     Ok(())
 }

@@ -12,25 +12,26 @@ use font::Font;
 use text::refusal::Refusal;
 
 pub mod calls;
-pub mod characters;
 
 /// The colours of a pen.
-#[derive(Clone, Copy, PartialEq, Eq, Debug)]
+#[derive(Clone, Copy, PartialEq, Eq, Debug, Default)]
 pub enum Colours {
+    #[default]
     Plain,
     Prompt,
 }
 
 /// What a cell is written with.
-#[derive(Clone, Copy, PartialEq, Eq, Debug)]
+#[derive(Clone, Copy, PartialEq, Eq, Debug, Default)]
 pub struct Pen {
     pub colours: Colours,
     pub reversed: bool,
 }
 
 /// What a cell shows: nothing, a character, or the right half of the wide character to its left.
-#[derive(Clone, Copy, PartialEq, Eq, Debug)]
+#[derive(Clone, Copy, PartialEq, Eq, Debug, Default)]
 pub enum Ink {
+    #[default]
     Blank,
     Shown(u32),
     RightHalf,
@@ -49,6 +50,7 @@ pub enum PenChange {
 pub const WIDEST: usize = 512;
 
 /// The pen of a new row.
+// A constant beside `Default`, since other constants are made of it.
 pub const PLAIN: Pen = Pen {
     colours: Colours::Plain,
     reversed: false,

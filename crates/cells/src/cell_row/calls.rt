@@ -1,16 +1,20 @@
 // A new cell row, and its calls.
-ghost use Rattle.std.specs.Prelude.{◌≡◌};
+ghost use Rattle.std.specs.Prelude.{◌≡◌, ◌≤◌, replicate};
+ghost use Rattle.glass.specs.Row.{widest};
 ghost use Rattle.glass.specs.Calls.{changed_pen};
 ghost use Rattle.glass.specs.Ties.{untied};
+ghost use Rattle.cells.specs.Slots.{blank_slot};
 ghost use Rattle.cells.specs.Shows.{shows, spare_of, Made};
 
 use super::CellRow;
-use crate::table::{BLANK, MARKS, Mark};
+use crate::marks::Marks;
+use crate::table::{BLANK, Slot};
+use arrayvec::ArrayVec;
 use font::Font;
-use glass::characters::all_scalars;
 use glass::{Colours, Glass, PLAIN, Pen, PenChange, WIDEST};
 use std::marker::PhantomData;
 use text::refusal::Refusal;
+use text::scalar::all_scalars;
 
 fn changed(change: PenChange, pen: Pen) -> Pen
     ensures value { result ≡ changed_pen change pen }
@@ -22,14 +26,24 @@ fn changed(change: PenChange, pen: Pen) -> Pen
             reversed: false,
         },
         PenChange::ReverseOn => Pen {
-            colours: pen.colours,
             reversed: true,
+            ..pen
         },
         PenChange::ReverseOff => Pen {
-            colours: pen.colours,
             reversed: false,
+            ..pen
         },
     }
+}
+
+// The slots of a blank row.
+fn blank_slots(width: usize) -> ArrayVec<Slot, WIDEST>
+    requires { width ≤ widest }
+    ensures value { result.items ≡ replicate width blank_slot }
+{
+    let mut slots = ArrayVec::from([BLANK; WIDEST]);
+    slots.truncate(width);
+    slots
 }
 
 impl<F: Font> CellRow<F> {
@@ -37,16 +51,14 @@ impl<F: Font> CellRow<F> {
     pub fn new(width: usize) -> Result<CellRow<F>, Refusal>
         ensures made { Made width result }
     {
-        if width < 1 || width > WIDEST {
+        if !(1..=WIDEST).contains(&width) {
             return Err(Refusal::OutsideGlass);
         }
         Ok(CellRow {
-            slots: [BLANK; WIDEST],
-            width,
+            slots: blank_slots(width),
             pen: PLAIN,
             column: 0,
-            marks: [Mark { column: 0, code: 0 }; MARKS],
-            count: 0,
+            marks: Marks::new(),
             font: PhantomData,
         })
     }
@@ -63,7 +75,7 @@ impl<F: Font> Glass for CellRow<F> {
     ghost tied = { λ _. untied };
 
     fn width(&self) -> usize {
-        self.width
+        self.slots.len()
     }
 
     fn spare_left(&self) -> usize {
@@ -71,7 +83,7 @@ impl<F: Font> Glass for CellRow<F> {
     }
 
     fn place(&mut self, column: usize) -> Result<(), Refusal> {
-        if column >= self.width {
+        if column >= self.slots.len() {
             return Err(Refusal::OutsideGlass);
         }
         self.column = column;
@@ -79,8 +91,7 @@ impl<F: Font> Glass for CellRow<F> {
     }
 
     fn pen(&mut self, change: PenChange) -> Result<(), Refusal> {
-        let pen = changed(change, self.pen);
-        self.pen = pen;
+        self.pen = changed(change, self.pen);
         Ok(())
     }
 
@@ -101,12 +112,11 @@ impl<F: Font> Glass for CellRow<F> {
     }
 
     fn reshape(&mut self, width: usize) -> Result<(), Refusal> {
-        if width < 1 || width > WIDEST {
+        if !(1..=WIDEST).contains(&width) {
             return Err(Refusal::OutsideGlass);
         }
-        self.slots = [BLANK; WIDEST];
-        self.count = 0;
-        self.width = width;
+        self.slots = blank_slots(width);
+        self.marks.truncate(0);
         self.column = 0;
         self.pen = PLAIN;
         Ok(())

@@ -1,32 +1,23 @@
 // How cells are filled and marked. None of this is refused: the calls have seen to that.
 ghost use Rattle.std.specs.Prelude.{◌≡◌, ◌+◌, ◌<◌, ◌≤◌, length, IfSome, slice_set};
-ghost use Rattle.font.specs.declared.Columns.TheVariants.{Zero, One, Two};
-ghost use Rattle.glass.specs.Row.{cell, is_right_half};
-ghost use Rattle.glass.specs.Calls.{cell_left_of, with_cells, with_character, with_text, cleared};
+ghost use Rattle.arrayvec.specs.ArrayVec.{array_vec_len};
+ghost use Rattle.font.specs.declared.Columns.TheVariants.{Zero};
+ghost use Rattle.glass.specs.Row.{cell};
+ghost use Rattle.glass.specs.Calls.{cell_left_of, with_cells, if_it_fits, with_character, with_text, cleared};
 ghost use Rattle.cells.specs.Slots.{most_marks};
-ghost use Rattle.cells.specs.Shows.{shows, spare_of};
+ghost use Rattle.cells.specs.Shows.{shows, spare_of, mark_records, inked};
 
 use super::CellRow;
-use crate::table::{BLANK, MARKS, Mark, Slot, run, start};
+use crate::table::{BLANK, MARKS, Mark, Slot};
 use font::{Columns, Font};
 use glass::Ink;
-use text::gap::{close_gap, open_gap};
-
-fn right_half(ink: Ink) -> bool
-    ensures value { result ≡ is_right_half ink }
-{
-    match ink {
-        Ink::RightHalf => true,
-        _ => false,
-    }
-}
 
 impl<F> CellRow<F> {
     // What is left of the table of marks.
     pub(super) fn spare(&self) -> usize
         ensures value { result ≡ spare_of self.now }
     {
-        MARKS - self.count
+        MARKS - self.marks.len()
     }
 
     // The nearest cell to the left of the cursor that is no right half.
@@ -34,125 +25,82 @@ impl<F> CellRow<F> {
         ensures nearest { result ≡ cell_left_of self.now.column (shows self.now).cells }
         ensures below { IfSome result (λ k. k < self.now.column) }
     {
-        let mut k = self.column;
-        while 0 < k {
-            k -= 1;
-            let ink = self.slots[k].ink;
-            if !right_half(ink) {
-                return Some(k);
+        for column in (0..self.column).rev() {
+            if self.slots[column].ink != Ink::RightHalf {
+                return Some(column);
             }
         }
         None
     }
 
+    // Joins a mark to the nearest cell to the left; there may be none.
+    fn join(&mut self, code: u32)
+        requires { mark_records self.old + 1 < most_marks }
+        ensures row { shows self.new ≡ with_character Zero code (shows self.old) }
+        ensures more { mark_records self.new ≤ mark_records self.old + 1 }
+    {
+        if let Some(column) = self.left_cell() {
+            self.marks.add(Mark { column, code });
+        }
+    }
+
     // Fills one cell, without marks.
     fn put(&mut self, at: usize, slot: Slot)
-        requires { at < self.old.width }
+        requires { at < array_vec_len self.old.slots }
         ensures row { shows self.new ≡ with_cells (slice_set (shows self.old).cells at (cell slot.ink slot.pen)) (shows self.old) }
-        ensures width { self.new.width ≡ self.old.width }
-        ensures fewer { self.new.count ≤ self.old.count }
+        ensures width { array_vec_len self.new.slots ≡ array_vec_len self.old.slots }
+        ensures fewer { mark_records self.new ≤ mark_records self.old }
     {
-        let count = self.count;
-        let (from, to) = run(&self.marks, count, at);
-        close_gap(&mut self.marks, count, from, to - from);
-        self.count = count - (to - from);
+        self.marks.remove(at);
         self.slots[at] = slot;
     }
 
-    // Joins a mark to the nearest cell to the left; there may be none.
-    fn join(&mut self, code: u32)
-        requires { self.old.count + 1 < most_marks }
-        ensures row { shows self.new ≡ with_character Zero code (shows self.old) }
-        ensures more { self.new.count ≤ self.old.count + 1 }
+    // Fills cells from the cursor on, which moves behind them, where they all fit.
+    fn put_inks(&mut self, inks: &[Ink])
+        ensures row { shows self.new ≡ if_it_fits (length inks.now) (inked inks.now (shows self.old)) (shows self.old) }
+        ensures fewer { mark_records self.new ≤ mark_records self.old }
     {
-        match self.left_cell() {
-            None => {}
-            Some(column) => {
-                let count = self.count;
-                let at = start(&self.marks, count, column + 1);
-                open_gap(&mut self.marks, count, at, 1);
-                self.marks[at] = Mark { column, code };
-                self.count = count + 1;
-            }
+        if inks.len() > self.slots.len() - self.column {
+            return;
         }
-    }
-
-    fn put_narrow(&mut self, c: u32)
-        ensures row { shows self.new ≡ with_character One c (shows self.old) }
-        ensures fewer { self.new.count ≤ self.old.count }
-    {
-        let at = self.column;
         let pen = self.pen;
-        if at + 1 <= self.width {
-            self.put(
-                at,
-                Slot {
-                    ink: Ink::Shown(c),
-                    pen,
-                },
-            );
-            self.column = at + 1;
+        for &ink in inks {
+            self.put(self.column, Slot { ink, pen });
+            self.column += 1;
         }
     }
 
-    fn put_wide(&mut self, c: u32)
-        ensures row { shows self.new ≡ with_character Two c (shows self.old) }
-        ensures fewer { self.new.count ≤ self.old.count }
-    {
-        let at = self.column;
-        let pen = self.pen;
-        if at + 2 <= self.width {
-            self.put(
-                at,
-                Slot {
-                    ink: Ink::Shown(c),
-                    pen,
-                },
-            );
-            self.put(
-                at + 1,
-                Slot {
-                    ink: Ink::RightHalf,
-                    pen,
-                },
-            );
-            self.column = at + 2;
-        }
-    }
-
-    // Makes the cells from the cursor on blank. Their marks stand at the end of the table.
+    // Makes the cells from the cursor on blank.
     pub(super) fn clear_rest(&mut self)
         ensures row { shows self.new ≡ cleared (shows self.old) }
-        ensures fewer { self.new.count ≤ self.old.count }
+        ensures fewer { mark_records self.new ≤ mark_records self.old }
     {
-        let from = self.column;
-        let width = self.width;
-        self.count = start(&self.marks, self.count, from);
-        self.slots[from..width].fill(BLANK);
+        self.marks.truncate(self.column);
+        self.slots[self.column..].fill(BLANK);
     }
 }
 
 impl<F: Font> CellRow<F> {
     fn put_character(&mut self, c: u32)
-        requires { self.old.count + 1 < most_marks }
+        requires { mark_records self.old + 1 < most_marks }
         ensures row { shows self.new ≡ with_character (F.Font.columns c) c (shows self.old) }
-        ensures more { self.new.count ≤ self.old.count + 1 }
+        ensures more { mark_records self.new ≤ mark_records self.old + 1 }
     {
         match F::columns_of(c) {
             Columns::NoWidth => {}
             Columns::Zero => self.join(c),
-            Columns::One => self.put_narrow(c),
-            Columns::Two => self.put_wide(c),
+            Columns::One => self.put_inks(&[Ink::Shown(c)]),
+            Columns::Two => self.put_inks(&[Ink::Shown(c), Ink::RightHalf]),
         }
     }
 
     pub(super) fn put_text(&mut self, characters: &[u32])
-        requires { self.old.count + length characters.now < most_marks }
+        requires { mark_records self.old + length characters.now < most_marks }
         ensures row { shows self.new ≡ with_text F.Font.columns characters.now (shows self.old) }
-        ensures more { self.new.count ≤ self.old.count + length characters.now }
+        ensures more { mark_records self.new ≤ mark_records self.old + length characters.now }
     {
-        for c in characters {
-            self.put_character(*c);
+        for &c in characters {
+            self.put_character(c);
         }
     }
 }

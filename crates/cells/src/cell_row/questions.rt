@@ -5,7 +5,7 @@ ghost use Rattle.cells.specs.Slots.{code_of, most_marks};
 ghost use Rattle.cells.specs.Shows.{shows, spare_of, marks_on, slot_shown};
 
 use super::CellRow;
-use crate::table::{Mark, Slot, run};
+use crate::table::{Mark, Slot};
 use glass::Pen;
 
 impl<F> CellRow<F> {
@@ -27,22 +27,14 @@ impl<F> CellRow<F> {
     pub fn cell(&self, column: usize) -> Option<Slot>
         ensures value { result ≡ slot_shown (shows self.now) column }
     {
-        if column < self.width {
-            Some(self.slots[column])
-        } else {
-            None
-        }
+        self.slots.get(column).copied()
     }
 
     /// The marks of the cell in a column, as they came; none past the width.
     pub fn marks(&self, column: usize) -> &[Mark]
         ensures value { map code_of result.now ≡ (slice_index_or (shows self.now).cells column blank_cell).marks }
     {
-        if column >= self.width {
-            return &[];
-        }
-        let (from, to) = run(&self.marks, self.count, column);
-        &self.marks[from..to]
+        self.marks.of(column)
     }
 
     /// How many marks the row has. The spare is 2,048 less these.
@@ -50,6 +42,6 @@ impl<F> CellRow<F> {
         ensures value { result ≡ marks_on (shows self.now) }
         ensures spare { spare_of self.now ≡ most_marks - result }
     {
-        self.count
+        self.marks.len()
     }
 }

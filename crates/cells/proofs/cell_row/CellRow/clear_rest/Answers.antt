@@ -1,42 +1,20 @@
 use Rattle.std.proofs.Common.{◌-◌, ◌++◌, length, take, replicate, sym, ap, ◌∙◌, arith}
-use borrow.Rule.Slice.PartMut.{put_mid}
-use Rattle.std.proofs.lemmas.List.{take-take}
+use borrow.Rule.Slice.PartMut.{post_of}
+use Rattle.arrayvec.proofs.ArrayVecLemmas.{items-with_items}
 use Rattle.glass.specs.Row.{blank_cell}
-use Rattle.glass.specs.Calls.{with_cells}
-use Rattle.cells.specs.Slots.{cells_of, rises, all_before}
 use Rattle.cells.specs.Shows.{shows, records}
-use Rattle.cells.proofs.Counts.{before_front}
-use Rattle.cells.proofs.SlotCells.{length_cells, wiped, wiped_length, cleared_cells}
-use Rattle.cells.proofs.Runs.{rises_front}
+use Rattle.cells.proofs.SlotCells.{row_is, length_cells, filled, wiped_length, cleared_cells}
 use Rattle.cells.proofs.cell_row.CellRow.clear_rest.Goals as goal
 
-pub invariant_of-self : goal.invariant_of-self
-invariant_of-self g c =
+pub returns-clause-row : goal.returns-clause-row
+returns-clause-row g c =
     let s = c.args.self.now in
     let at = s.column in
-    let f = wiped s.slots s.width at (omega arith) (omega arith) c.fill.new.self (c.fill.ensures.after (λ y h. h)) in
-    let n = ap (λ xs. length (put_mid at (s.width - at) s.slots xs)) f ∙ wiped_length s.slots s.width at (omega arith) (omega arith) in
-    let r = c.start-self.ensures.within in
-    record {
-      sizes = (omega arith, omega arith);
-      ordered = ap (rises 0) (sym (take-take c.start-self.result s.count s.marks r)) ∙ rises_front c.start-self.result (records s) s.ordered;
-      inside = ap (all_before s.width) (sym (take-take c.start-self.result s.count s.marks r)) ∙ before_front s.width c.start-self.result (records s) s.inside;
-      within = (omega arith, omega arith, omega arith, omega arith);
-    }
-
-pub returns : goal.returns
-returns g c =
-    let s = c.args.self.now in
-    let at = s.column in
-    let r = c.start-self.result in
-    let f = wiped s.slots s.width at (omega arith) (omega arith) c.fill.new.self (c.fill.ensures.after (λ y h. h)) in
-    let w = length_cells s.slots s.width (records s) in
-    record {
-      row =
-          ap (λ cs. with_cells cs (shows s))
-          (ap (λ xs. cells_of (put_mid at (s.width - at) s.slots xs) s.width (take r s.marks)) f
-          ∙ ap (cells_of (put_mid at (s.width - at) s.slots (replicate (s.width - at) _)) s.width) (sym (take-take r s.count s.marks c.start-self.ensures.within))
-          ∙ cleared_cells s.slots s.width at (omega arith) (omega arith) r (records s) c.start-self.ensures.starts
-          ∙ ap (λ n. take at (shows s).cells ++ replicate (n - at) blank_cell) (sym w));
-      fewer = c.start-self.ensures.within;
-    }
+    let slots = s.slots.items in
+    let now = c.deref_mut.result.now in
+    let f = filled slots at (omega arith) now c.fill.new.self c.deref_mut.ensures.value (c.fill.ensures.after (λ y h. h)) in
+    row_is c.truncate.new.self.table.items s.pen at
+    (items-with_items s.slots (take at now ++ (c.fill.new.self ++ post_of at (length now - at) now)) (ap length f ∙ wiped_length slots at (omega arith)) ∙ f)
+    (wiped_length slots at (omega arith))
+    (cleared_cells slots at (omega arith) (records s) c.truncate.new.self.table.items c.truncate.ensures.cut
+    ∙ ap (λ n. take at (shows s).cells ++ replicate (n - at) blank_cell) (sym (length_cells slots (length slots) (records s))))

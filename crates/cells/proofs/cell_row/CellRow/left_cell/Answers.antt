@@ -1,16 +1,20 @@
-use Rattle.std.proofs.Common.{true, false, take, sym, ◌∙◌, arith}
+use Rattle.std.proofs.Common.{◌≡◌, ◌-◌, ◌∙◌, length, get_or, true, false, sym, arith, rules}
+use Rattle.glass.specs.Row.{is_right_half}
+use Rattle.cells.specs.Slots.{blank_slot}
+use Rattle.cells.specs.Shows.{records}
 use Rattle.cells.proofs.SlotCells.{at_left}
 use Rattle.cells.proofs.cell_row.CellRow.left_cell.Goals as goal
 
-pub loop-k-preserved : goal.loop-k-preserved
-loop-k-preserved g c =
-    let i = c.loop-k.invariant in
-    (omega arith, sym (at_left c.args.self.now.slots c.args.self.now.width (take c.args.self.now.count c.args.self.now.marks) c.loop-k.k true c.loop-k-test.true (omega arith) (sym c.right_half.ensures.value ∙ c.if-not-right_half.false)) ∙ i.1)
+pub returns-then-ne-clause-nearest : goal.returns-then-ne-clause-nearest
+returns-then-ne-clause-nearest g c =
+    let s = c.args.self.now in
+    let k = c.loop-column.column in
+    let e : is_right_half (get_or c.deref.result.now (k - 1) blank_slot).ink ≡ false = search rules in
+    sym (at_left s.slots.items (length s.slots.items) (records s) k false (omega arith) (omega arith) (rw c.deref.ensures.0 at e)) ∙ c.loop-column.invariant
 
-pub returns-then-not-right_half : goal.returns-then-not-right_half
-returns-then-not-right_half g c =
-    let i = c.loop-k.invariant in
-    record {
-      nearest = sym (at_left c.args.self.now.slots c.args.self.now.width (take c.args.self.now.count c.args.self.now.marks) c.loop-k.k false c.loop-k-test.true (omega arith) (sym c.right_half.ensures.value ∙ c.if-not-right_half.true)) ∙ i.1;
-      below = omega arith;
-    }
+pub loop-column-preserved : goal.loop-column-preserved
+loop-column-preserved g c =
+    let s = c.args.self.now in
+    let k = c.loop-column.column in
+    let e : is_right_half (get_or c.deref.result.now (k - 1) blank_slot).ink ≡ true = search rules in
+    sym (at_left s.slots.items (length s.slots.items) (records s) k true (omega arith) (omega arith) (rw c.deref.ensures.0 at e)) ∙ c.loop-column.invariant

@@ -1,12 +1,10 @@
-use Rattle.std.proofs.Common.{refl, arith}
-use Rattle.std.proofs.lemmas.List.{length-take}
+use Rattle.std.proofs.Common.{sym, ◌∙◌}
+use Rattle.arrayvec.specs.ArrayVec.{array_vec_len}
 use Rattle.cells.specs.Shows.{records}
 use Rattle.cells.proofs.Counts.{marks_counted}
 use Rattle.cells.proofs.cell_row.CellRow.mark_count.Goals as goal
 
-pub returns : goal.returns
-returns g c =
+pub returns-clause-value : goal.returns-clause-value
+returns-clause-value g c =
     let s = c.args.self.now in
-    let e = marks_counted s.slots s.width (records s) s.inside in
-    let n = length-take s.count s.marks in
-    record { value = omega arith; spare = refl }
+    c.len.ensures.value ∙ sym (marks_counted s.slots.items (array_vec_len s.slots) (records s) s.inside)
