@@ -1,4 +1,5 @@
+pub mod Writes
 pub mod Encodes
-pub mod Puts
 pub mod Logs
+pub mod Records
 pub mod Steps

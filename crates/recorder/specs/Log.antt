@@ -1,6 +1,6 @@
 -- A log: the version 01, then records. A record is the number of bytes that follow it, in two bytes with the high one
 -- first, then a kind and what belongs to it. A log says which calls were made, and so which row it makes.
-use Rattle.std.specs.Prelude.{◌≡◌, ℕ, zero, suc, ◌+◌, ◌*◌, ◌/◌, ◌%◌, min, Bool, true, cond, not, ◌&&◌, ◌||◌, List, [], ◌∷◌, ◌++◌, length, drop, Some, None, Ok, Err, Option, Result, ◌==◌, nat_lt, slice_index}
+use Rattle.std.specs.Prelude.{◌≡◌, ℕ, zero, suc, ◌+◌, ◌*◌, ◌/◌, ◌%◌, min, Bool, true, cond, not, ◌&&◌, ◌||◌, List, [], ◌∷◌, ◌++◌, length, take, drop, Some, None, Ok, Err, Option, Result, ◌==◌, nat_lt, slice_index}
 use Rattle.std.proofs.Math.Utf8.{encodes}
 use Rattle.std.specs.Str.{chars}
 use Rattle.std.specs.List.{flat_map}
@@ -33,6 +33,10 @@ measured p = (length p / 256) ∷ (length p % 256) ∷ p
 
 abbrev pub record_of : (line : ℕ) → GlassCall → List ℕ
 record_of line k = measured (payload line k)
+
+-- bytes with a part written over them from a place on
+abbrev pub written_at : (at : ℕ) → (part bytes : List ℕ) → List ℕ
+written_at at part bytes = take at bytes ++ (part ++ drop (at + length part) bytes)
 
 -- what calls are written as; none as no bytes
 abbrev pub log_of : (line : ℕ) → List GlassCall → List ℕ

@@ -17,6 +17,7 @@ pub const MOST_BYTES: usize = 65536;
 /// Its bytes are exactly what the calls that they read as are written as, and its width is the one that they make.
 #[derive(Drop)]
 pub struct Recorder<'a, F> {
+    // The lent buffer is all the memory that a recorder has, so its length in use stands beside it.
     bytes: &'a mut [u8],
     used: usize,
     limit: usize,

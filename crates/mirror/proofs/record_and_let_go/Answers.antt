@@ -8,7 +8,7 @@ pub returns : goal.returns
 returns g c =
     let m = c.new-recorder.ensures in
     let o = making_refused c.args.width (length c.args.buffer.now) in
-    let ks = made (map call_of c.args.calls.now) c.record_all-recorded.result in
-    let e = ends c.new-recorder.result c.record_all-recorded.new.recorder _ c.args.line c.args.width c.args.buffer.now o ks m.tied.0 m.tied.1 m.rest_kept m.opens c.record_all-recorded.ensures.keeps in
+    let ks = made (map call_of c.args.calls.now) c.perform_all-recorded.result in
+    let e = ends c.new-recorder.result c.perform_all-recorded.new.glass _ c.args.line c.args.width c.args.buffer.now o ks m.tied.0 m.tied.1 m.rest_kept m.opens c.perform_all-recorded.ensures.keeps in
     let b = e.same_buffer in let l = e.log_is in let r = e.rest_kept in
     search rules

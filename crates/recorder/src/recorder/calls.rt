@@ -2,11 +2,11 @@
 ghost use Rattle.recorder.specs.Recorded.{shown_by, spare_of, tied_of};
 
 use super::Recorder;
-use super::writing::{encoded_len, paid_by, pen_code};
+use super::writing::pen_code;
 use font::Font;
-use glass::characters::all_scalars;
 use glass::{Glass, PenChange, WIDEST};
 use text::refusal::Refusal;
+use text::scalar::all_scalars;
 
 // Its row is the one that its bytes make.
 impl<F: Font> Glass for Recorder<'_, F> {
@@ -18,78 +18,56 @@ impl<F: Font> Glass for Recorder<'_, F> {
 
     ghost tied = { λ s. tied_of s };
 
+    #[tactic(auto, using(crate::proofs::Steps::width_is, crate::proofs::Logs::log_showable))]
     fn width(&self) -> usize {
         self.width
     }
 
     fn spare_left(&self) -> usize {
-        paid_by(self.limit - self.used)
+        self.spare()
     }
 
+    #[tactic(auto, using(crate::proofs::Steps::width_is))]
     fn place(&mut self, column: usize) -> Result<(), Refusal> {
         if column >= self.width {
             return Err(Refusal::OutsideGlass);
         }
-        if paid_by(self.limit - self.used) < 1 {
-            return Err(Refusal::LowSpare);
-        }
-        let part = [
-            0,
-            5,
-            1,
-            (self.line / 256) as u8,
-            (self.line % 256) as u8,
-            (column / 256) as u8,
-            (column % 256) as u8,
-        ];
-        let width = self.width;
-        self.enter(&part, width);
+        self.can_pay(1)?;
+        let [line_high, line_low] = self.line.to_be_bytes();
+        let [high, low] = (column as u16).to_be_bytes();
+        let part = [0, 5, 1, line_high, line_low, high, low];
+        self.enter(&part, self.width);
         Ok(())
     }
 
     fn pen(&mut self, change: PenChange) -> Result<(), Refusal> {
-        if paid_by(self.limit - self.used) < 1 {
-            return Err(Refusal::LowSpare);
-        }
-        let part = [0, 2, 2, pen_code(change)];
-        let width = self.width;
-        self.enter(&part, width);
+        self.can_pay(1)?;
+        self.enter(&[0, 2, 2, pen_code(change)], self.width);
         Ok(())
     }
 
     fn text(&mut self, characters: &[u32]) -> Result<(), Refusal> {
-        if paid_by(self.limit - self.used) <= characters.len() {
-            return Err(Refusal::LowSpare);
-        }
+        self.can_pay(characters.len() + 1)?;
         if !all_scalars(characters) {
             return Err(Refusal::NotScalar);
         }
-        let at = self.used;
-        let follow = encoded_len(characters) + 1;
-        self.put(at, &[(follow / 256) as u8, (follow % 256) as u8, 3]);
-        let end = self.put_text(at + 3, characters);
-        self.used = end;
+        self.enter_text(characters);
         Ok(())
     }
 
     fn clear(&mut self) -> Result<(), Refusal> {
-        if paid_by(self.limit - self.used) < 1 {
-            return Err(Refusal::LowSpare);
-        }
-        let width = self.width;
-        self.enter(&[0, 1, 4], width);
+        self.can_pay(1)?;
+        self.enter(&[0, 1, 4], self.width);
         Ok(())
     }
 
     fn reshape(&mut self, width: usize) -> Result<(), Refusal> {
-        if width < 1 || width > WIDEST {
+        if !(1..=WIDEST).contains(&width) {
             return Err(Refusal::OutsideGlass);
         }
-        if paid_by(self.limit - self.used) < 1 {
-            return Err(Refusal::LowSpare);
-        }
-        let part = [0, 3, 5, (width / 256) as u8, (width % 256) as u8];
-        self.enter(&part, width);
+        self.can_pay(1)?;
+        let [high, low] = (width as u16).to_be_bytes();
+        self.enter(&[0, 3, 5, high, low], width);
         Ok(())
     }
 }

@@ -17,7 +17,7 @@ pub const OPENING: usize = 6;
 pub fn can_record(width: usize, room: usize) -> Result<(), Refusal>
     ensures value { result ≡ answer (making_refused width room) }
 {
-    if width < 1 || width > WIDEST {
+    if !(1..=WIDEST).contains(&width) {
         return Err(Refusal::OutsideGlass);
     }
     if room < OPENING {
@@ -36,21 +36,17 @@ impl<'a, F: Font> Recorder<'a, F> {
         ensures row { shown_by F.Font.columns result ≡ blank_row (first_width (making_refused width (length bytes.old)) width) }
         ensures tied { (result.bytes.ghost_name ≡ bytes.entry.ghost_name) × (result.line ≡ line) }
     {
-        if let Err(_) = can_record(width, bytes.len()) {
-            return Recorder {
-                bytes,
-                used: 0,
-                limit: 0,
-                line,
-                width: 1,
-                font: PhantomData,
-            };
-        }
-        bytes[0..OPENING].copy_from_slice(&[1, 0, 3, 5, (width / 256) as u8, (width % 256) as u8]);
-        let limit = bytes.len().min(MOST_BYTES);
+        let (used, limit, width) = match can_record(width, bytes.len()) {
+            Ok(()) => {
+                let [high, low] = (width as u16).to_be_bytes();
+                bytes[..OPENING].copy_from_slice(&[1, 0, 3, 5, high, low]);
+                (OPENING, bytes.len().min(MOST_BYTES), width)
+            }
+            Err(_) => (0, 0, 1),
+        };
         Recorder {
             bytes,
-            used: OPENING,
+            used,
             limit,
             line,
             width,
@@ -62,7 +58,7 @@ impl<'a, F: Font> Recorder<'a, F> {
     pub fn bytes_so_far(&self) -> &[u8]
         ensures value { result.now ≡ log self.now }
     {
-        &self.bytes[0..self.used]
+        &self.bytes[..self.used]
     }
 
     /// Ends the recorder, and says how many bytes of the buffer are its log.
@@ -71,22 +67,11 @@ impl<'a, F: Font> Recorder<'a, F> {
         ensures buffer { self.exit.0.now ≡ self.entry.bytes.now }
         ensures written { Written self.entry.line (take result self.exit.0.now) }
     {
-        let count = self.used;
-        let Recorder {
-            bytes: _,
-            used: _,
-            limit: _,
-            line: _,
-            width: _,
-            font: _,
-        } = self;
-        count
+        self.used
     }
 }
 
 /// The calls that a row takes are read back from what they are written as, whatever the line.
-pub fn calls_are_read_back() -> u8
+pub fn calls_are_read_back()
     ensures law { CallsAreReadBack }
-{
-    0
-}
+{}

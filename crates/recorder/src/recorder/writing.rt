@@ -1,25 +1,21 @@
 // How records are written.
-ghost use Rattle.std.specs.Prelude.{◌≡◌, ◌+◌, ◌*◌, ◌/◌, ◌<◌, ◌≤◌, true, ◌++◌, length, take, drop};
+ghost use Rattle.std.specs.Prelude.{◌≡◌, ◌+◌, ◌*◌, ◌<◌, ◌≤◌, true, length, MatchResult};
 ghost use Rattle.std.proofs.Math.Utf8.{encodes, scalars};
+ghost use Rattle.glass.specs.Calls.{GlassCall};
 ghost use Rattle.glass.specs.Row.{widest};
-ghost use Rattle.recorder.specs.Log.{RecordOf, pen_code, most_bytes};
+ghost use Rattle.recorder.specs.Log.{RecordOf, pen_code, record_of, written_at};
+ghost use Rattle.recorder.specs.Recorded.{Grown, spare_of};
 
 use super::Recorder;
 use glass::PenChange;
+use text::refusal::Refusal;
 
 // How many bytes pay one unit of a cost: no record takes more for each unit of its own.
 const UNIT: usize = 8;
 
-// What so many free bytes can pay.
-pub(super) fn paid_by(free: usize) -> usize
-    ensures value { result ≡ free / 8 }
-{
-    free / UNIT
-}
-
+// Said here and not as a `From` of the pen's: the codes are the record's, and a `From` could only stand beside the pen.
 pub(super) fn pen_code(change: PenChange) -> u8
-    ensures value { result ≡ pen_code change }
-    ensures small { result < 4 }
+    ensures { result ≡ pen_code change }
 {
     match change {
         PenChange::Plain => 0,
@@ -29,40 +25,42 @@ pub(super) fn pen_code(change: PenChange) -> u8
     }
 }
 
-// How many bytes a text takes in UTF-8.
-pub(super) fn encoded_len(characters: &[u32]) -> usize
-    requires few { length characters.now ≤ most_bytes }
+// Writes a text in UTF-8 at a place, and gives the place after it.
+fn write_text(bytes: &mut [u8], at: usize, characters: &[u32]) -> usize
+    requires room { at + length (encodes characters.now) ≤ length bytes.old }
     requires scalar { scalars characters.now ≡ true }
-    ensures value { result ≡ length (encodes characters.now) }
-    ensures at_most_four_each { result ≤ 4 * length characters.now }
+    ensures end { result ≡ at + length (encodes characters.now) }
+    ensures written { bytes.new ≡ written_at at (encodes characters.now) bytes.old }
 {
-    let mut n = 0;
+    let mut end = at;
     for c in characters {
         let Some(ch) = char::from_u32(*c) else {
-            unreachable()
+            unreachable!()
         };
-        n += ch.len_utf8();
+        let mut room = [0; 4];
+        let part = ch.encode_utf8(&mut room).as_bytes();
+        bytes[end..end + part.len()].copy_from_slice(part);
+        end += part.len();
     }
-    n
+    end
 }
 
 impl<F> Recorder<'_, F> {
-    // Writes `part` at a place past the log.
-    pub(super) fn put(&mut self, at: usize, part: &[u8])
-        requires { (self.old.used ≤ at) × (at + length part.now ≤ self.old.limit) }
-        ensures front { take (at + length part.now) self.new.bytes.now ≡ take at self.old.bytes.now ++ part.now }
-        ensures rest { drop (at + length part.now) self.new.bytes.now ≡ drop (at + length part.now) self.old.bytes.now }
-        ensures used { self.new.used ≡ self.old.used }
-        ensures limit { self.new.limit ≡ self.old.limit }
-        ensures line { self.new.line ≡ self.old.line }
-        ensures width { self.new.width ≡ self.old.width }
-        ensures keeps { self.new.bytes.ghost_name ≡ self.old.bytes.ghost_name }
+    // What its free bytes can pay.
+    pub(super) fn spare(&self) -> usize
+        ensures value { result ≡ spare_of self.now }
     {
-        let mut i = 0;
-        while i < part.len() {
-            self.bytes[at + i] = part[i];
-            i += 1;
+        (self.limit - self.used) / UNIT
+    }
+
+    // Whether it can pay a cost.
+    pub(super) fn can_pay(&self, cost: usize) -> Result<(), Refusal>
+        ensures refused_exactly { MatchResult result (λ _. cost ≤ spare_of self.now) (λ e. (spare_of self.now < cost) × (e ≡ Refusal.LowSpare)) }
+    {
+        if self.spare() < cost {
+            return Err(Refusal::LowSpare);
         }
+        Ok(())
     }
 
     // Writes the record of a call after the log; the row then has the width `width`.
@@ -70,41 +68,24 @@ impl<F> Recorder<'_, F> {
         requires call { RecordOf self.old.line self.old.width width part.now }
         requires room { (0 < self.old.used) × (self.old.used + length part.now ≤ self.old.limit) }
         requires within { width ≤ widest }
-        ensures log { take self.new.used self.new.bytes.now ≡ take self.old.used self.old.bytes.now ++ part.now }
-        ensures rest { drop self.new.used self.new.bytes.now ≡ drop self.new.used self.old.bytes.now }
-        ensures used { self.new.used ≡ self.old.used + length part.now }
-        ensures limit { self.new.limit ≡ self.old.limit }
-        ensures line { self.new.line ≡ self.old.line }
-        ensures keeps { self.new.bytes.ghost_name ≡ self.old.bytes.ghost_name }
+        ensures grown { Grown part.now self.old self.new }
     {
-        let at = self.used;
-        self.put(at, part);
-        self.used = at + part.len();
+        let end = self.used + part.len();
+        self.bytes[self.used..end].copy_from_slice(part);
+        self.used = end;
         self.width = width;
     }
 
-    // Writes a text in UTF-8 at a place past the log, and gives the place after it.
-    pub(super) fn put_text(&mut self, at: usize, characters: &[u32]) -> usize
-        requires { (self.old.used ≤ at) × ((at + length (encodes characters.now) ≤ self.old.limit) × (scalars characters.now ≡ true)) }
-        ensures end { result ≡ at + length (encodes characters.now) }
-        ensures front { take result self.new.bytes.now ≡ take at self.old.bytes.now ++ encodes characters.now }
-        ensures rest { drop result self.new.bytes.now ≡ drop result self.old.bytes.now }
-        ensures used { self.new.used ≡ self.old.used }
-        ensures limit { self.new.limit ≡ self.old.limit }
-        ensures line { self.new.line ≡ self.old.line }
-        ensures width { self.new.width ≡ self.old.width }
-        ensures keeps { self.new.bytes.ghost_name ≡ self.old.bytes.ghost_name }
+    // Writes the record of a text after the log.
+    pub(super) fn enter_text(&mut self, characters: &[u32])
+        requires room { (0 < self.old.used) × (self.old.used + 3 + 4 * length characters.now ≤ self.old.limit) }
+        requires scalar { scalars characters.now ≡ true }
+        ensures grown { Grown (record_of self.old.line (GlassCall.text characters.now)) self.old self.new }
     {
-        let mut end = at;
-        for c in characters {
-            let Some(ch) = char::from_u32(*c) else {
-                unreachable()
-            };
-            let mut room = [0; 4];
-            let part = ch.encode_utf8(&mut room).as_bytes();
-            self.put(end, part);
-            end += part.len();
-        }
-        end
+        let at = self.used;
+        let end = write_text(self.bytes, at + 3, characters);
+        let [high, low] = ((end - at - 2) as u16).to_be_bytes();
+        self.bytes[at..at + 3].copy_from_slice(&[high, low, 3]);
+        self.used = end;
     }
 }

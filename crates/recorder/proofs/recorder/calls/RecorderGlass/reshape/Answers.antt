@@ -1,26 +1,20 @@
-use Rattle.std.proofs.Common.{[], ◌∷◌, refl, ap, arith}
-use Rattle.glass.specs.Calls.{reshape}
-use Rattle.glass.proofs.Refusals.{some_width}
-use Rattle.recorder.specs.Recorded.{log}
-use Rattle.recorder.proofs.Steps.{taken_from, recorded, accepted}
+use Rattle.std.proofs.Common.{◌≤◌, arith}
+use Rattle.std.proofs.lemmas.Grind.{common_steps}
+use Rattle.glass.specs.Row.{widest}
+use Rattle.recorder.proofs.Records.{reshape_record}
+use Rattle.recorder.proofs.Steps.{accepted}
 use Rattle.recorder.proofs.recorder.calls.RecorderGlass.reshape.Goals as goal
 
-pub enter-requires : goal.enter-requires
-enter-requires g c =
-    let s = c.args.self.now in
-    let k = reshape c.args.width in
-    record {
-      call = record { call = k; spelled = refl; whole = taken_from k s.width (some_width c.args.width (omega arith) (omega arith)) refl; wide = refl };
-      room = (s.begun (omega arith), omega arith);
-      within = omega arith;
-    }
+pub enter-requires-clause-call : goal.enter-requires-clause-call
+enter-requires-clause-call g c =
+    let low : 1 ≤ c.args.width = grind (arith, common_steps) in
+    let high : c.args.width ≤ widest = grind (arith, common_steps) in
+    reshape_record c.args.self.now.line c.args.self.now.width c.args.width c.to_be_bytes.result c.to_be_bytes.ensures low high
 
 pub returns : goal.returns
 returns g c =
     let s = c.args.self.now in
-    let h = c.enter.new.self in
-    let k = reshape c.args.width in
-    record {
-      obeys = accepted s g.F.Font.columns k (log h) 5 h.limit h.used (some_width c.args.width (omega arith) (omega arith)) (omega arith) refl c.enter.ensures.log c.enter.ensures.limit c.enter.ensures.used (omega arith);
-      keeps = record { same_names = ap (λ n. n ∷ []) c.enter.ensures.keeps; same_line = c.enter.ensures.line; uses_more = omega arith; rest_kept = c.enter.ensures.rest; on_record = recorded s k (log h) (omega arith) (taken_from k s.width (some_width c.args.width (omega arith) (omega arith)) refl) c.enter.ensures.log };
-    }
+    let low : 1 ≤ c.args.width = grind (arith, common_steps) in
+    let high : c.args.width ≤ widest = grind (arith, common_steps) in
+    let k = reshape_record s.line s.width c.args.width c.to_be_bytes.result c.to_be_bytes.ensures low high in
+    accepted s g.F.Font.columns c.args.width _ c.enter.new.self k c.in_ok-can_pay.ensures.refused_exactly c.enter.ensures.grown
