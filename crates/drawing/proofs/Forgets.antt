@@ -1,6 +1,8 @@
 -- A drawing does not depend on what the row showed before.
-use Rattle.std.proofs.Common.{◌≡◌, ℕ, ◌+◌, ◌-◌, ◌≤◌, min, true, false, cond, ◌&&◌, ltb, leb, List, [], ◌∷◌, ◌++◌, length, take, drop, sym, refl, ap, ◌∙◌, ⊎_elim, arith, length-append, length-take, ltb-false, leb-true}
+use Rattle.std.proofs.Common.{◌≡◌, ℕ, ◌+◌, ◌-◌, ◌≤◌, min, true, cond, ◌&&◌, ltb, leb, List, [], ◌∷◌, ◌++◌, length, take, drop, sym, refl, ap, ◌∙◌, arith, length-append, length-take, ltb-false, leb-true}
 use lib.ListN.{length-replicate}
+use Rattle.std.proofs.lemmas.Bool.{and_parts, cond_both}
+use Rattle.std.proofs.lemmas.Bool.Decides.{nat_tests}
 use Rattle.font.specs.declared.Columns.{Columns}
 use Rattle.font.specs.declared.Columns.TheVariants.{NoWidth, Zero, One, Two}
 use Rattle.font.specs.Labels.{label as spelling}
@@ -8,14 +10,17 @@ use Rattle.glass.specs.declared.PenChange.{PenChange}
 use Rattle.glass.specs.declared.PenChange.TheVariants.{Plain, Prompt, ReverseOn, ReverseOff}
 use Rattle.glass.specs.Row.{Row, blank_cell, blank_row, width_of}
 use Rattle.glass.specs.Calls.{GlassCall, place, pen, clear, apply, apply_all, with_text, with_character, changed_pen, narrow, wide}
-use Rattle.glass.proofs.Front.{Inside, Front, front, same_front, finished, front_text, decide, text_width, inside_text, front_of_text, full_is}
+use Rattle.glass.proofs.Front.{Inside, Front, front, same_front, finished, front_text, text_width, inside_text, front_of_text, full_is}
 use Rattle.glass.proofs.Text.{text_append, text_column, fits_column, AllOne, all_append, all_take}
 use Rattle.drawing.proofs.Ones.{label_one}
 use Rattle.draft.specs.Draft.{Draft}
 use Rattle.drawing.specs.Ascii.{printable}
 use Rattle.drawing.specs.Drawing.{sent, ended, joined, spelled, piece, pieces, text_start, cursor_column, drawing, DrawingForgets}
 use Rattle.glass.proofs.Drew.{apply_append}
-use Rattle.drawing.proofs.Tests.{both}
+
+pub sends : (columns : ℕ → Columns) (run : List ℕ) (ks : List GlassCall) (r : Row) → apply_all columns (sent run ks) r ≡ apply_all columns ks (with_text columns run r)
+sends columns [] ks r = refl
+sends columns (c ∷ cs) ks r = refl
 
 module _ (columns : ℕ → Columns) (ascii : (c : ℕ) → 0x20 ≤ c → c ≤ 0x7E → columns c ≡ One) (width : ℕ) where
   -- two rows that agree left of the cursor
@@ -51,18 +56,12 @@ module _ (columns : ℕ → Columns) (ascii : (c : ℕ) → 0x20 ≤ c → c ≤
 
   same_end : (col : ℕ) (r s : Row) → Same r s → r.column ≡ col → apply_all columns (cond (ltb col width) (clear ∷ []) []) r ≡ apply_all columns (cond (ltb col width) (clear ∷ []) []) s
   same_end col r s a e =
-      ⊎_elim
-      (λ (t : ltb col width ≡ true). rw t (ap finished a.fronts))
-      (λ (t : ltb col width ≡ false). let u = ltb-false _ _ t in rw t (same_full r s a (omega arith)))
-      (decide (ltb col width))
-
-  pub sends : (run : List ℕ) (ks : List GlassCall) (r : Row) → apply_all columns (sent run ks) r ≡ apply_all columns ks (with_text columns run r)
-  sends [] ks r = refl
-  sends (c ∷ cs) ks r = refl
+      cond_both (ltb col width) (clear ∷ []) [] (λ ks. apply_all columns ks r ≡ apply_all columns ks s) (λ t. ap finished a.fronts)
+      (λ t. same_full r s a (omega (arith, ltb-false)))
 
   same_ended : (run : List ℕ) (col : ℕ) (r s : Row) → Same r s → (with_text columns run r).column ≡ col → apply_all columns (ended width col run) r ≡ apply_all columns (ended width col run) s
   same_ended run col r s a e =
-      sends run _ r ∙ same_end col (with_text columns run r) (with_text columns run s) (same_text run r s a) e ∙ sym (sends run _ s)
+      sends columns run _ r ∙ same_end col (with_text columns run r) (with_text columns run s) (same_text run r s a) e ∙ sym (sends columns run _ s)
 
   -- where the cursor is after one more character of the run
   pub run_column : (run : List ℕ) (c col n : ℕ) (w : Columns) (r : Row) → columns c ≡ w → (with_character w c (with_text columns run r)).column ≡ col + n → (with_text columns (run ++ (c ∷ [])) r).column ≡ col + n
@@ -78,22 +77,17 @@ module _ (columns : ℕ → Columns) (ascii : (c : ℕ) → 0x20 ≤ c → c ≤
       → (col + n ≤ width → (with_character w c (with_text columns run r)).column ≡ col + n)
       → apply_all columns (joined width col run n (λ k. pieces columns width k (run ++ (c ∷ [])) cs)) r ≡ apply_all columns (joined width col run n (λ k. pieces columns width k (run ++ (c ∷ [])) cs)) s
   joined_same cs on c run col n w r s a e q h =
-      ⊎_elim
-      (λ (t : ltb width (col + n) ≡ true). rw t (same_ended run col r s a e))
-      (λ (t : ltb width (col + n) ≡ false). let u = ltb-false _ _ t in rw t (on (run ++ (c ∷ [])) (col + n) r s a (run_column run c col n w r q (h u))))
-      (decide (ltb width (col + n)))
+      cond_both (ltb width (col + n)) (ended width col run) (pieces columns width (col + n) (run ++ (c ∷ [])) cs) (λ ks. apply_all columns ks r ≡ apply_all columns ks s)
+      (λ t. same_ended run col r s a e) (λ t. on (run ++ (c ∷ [])) (col + n) r s a (run_column run c col n w r q (h (ltb-false width (col + n) t))))
 
   spelled_same : (cs : List ℕ) → Alike cs → (l : List ℕ) (col : ℕ) (r s : Row) → Same r s → r.column ≡ col → AllOne columns l → col + length l ≤ width
       → apply_all columns (spelled width col l (λ k. pieces columns width k [] cs)) r ≡ apply_all columns (spelled width col l (λ k. pieces columns width k [] cs)) s
   spelled_same cs on l col r s a e o h =
-      let a1 = same_pen ReverseOn r s a in
-      let a2 = same_text l _ _ a1 in
-      let a3 = same_pen ReverseOff _ _ a2 in
+      let a3 = same_pen ReverseOff _ _ (same_text l _ _ (same_pen ReverseOn r s a)) in
       let k = text_column columns l (apply columns (pen ReverseOn) r) o (omega (arith, a.wide)) in
-      ⊎_elim
-      (λ (t : leb width (col + length l) ≡ true). let u = leb-true _ _ t in rw t (same_full _ _ a3 (omega (arith, k))))
-      (λ (t : leb width (col + length l) ≡ false). rw t (on [] (col + length l) _ _ a3 (omega (arith, k))))
-      (decide (leb width (col + length l)))
+      let after = λ (x : Row). apply columns (pen ReverseOff) (with_text columns l (apply columns (pen ReverseOn) x)) in
+      cond_both (leb width (col + length l)) [] (pieces columns width (col + length l) [] cs) (λ ks. apply_all columns ks (after r) ≡ apply_all columns ks (after s))
+      (λ t. same_full _ _ a3 (omega (arith, k, leb-true))) (λ t. on [] (col + length l) _ _ a3 (omega (arith, k)))
 
   by_width : (cs : List ℕ) → Alike cs → (w : Columns) (c : ℕ) (run : List ℕ) (col : ℕ) (r s : Row) → columns c ≡ w → Same r s → (with_text columns run r).column ≡ col
       → apply_all columns (piece w width col run c (λ k more. pieces columns width k more cs)) r ≡ apply_all columns (piece w width col run c (λ k more. pieces columns width k more cs)) s
@@ -102,7 +96,7 @@ module _ (columns : ℕ → Columns) (ascii : (c : ℕ) → 0x20 ≤ c → c ≤
       let l = take (width - col) (spelling c) in
       let n = length-take (width - col) (spelling c) in
       let m : col ≤ width = omega (arith, b.inside, b.wide) in
-      (sends run _ r ∙ spelled_same cs on l col (with_text columns run r) (with_text columns run s) b e (all_take columns (width - col) (spelling c) (label_one columns ascii c)) (omega arith) ∙ sym (sends run _ s))
+      (sends columns run _ r ∙ spelled_same cs on l col (with_text columns run r) (with_text columns run s) b e (all_take columns (width - col) (spelling c) (label_one columns ascii c)) (omega arith) ∙ sym (sends columns run _ s))
   by_width cs on Zero c run col r s q a e = (joined_same cs on c run col 0 Zero r s a e q (λ h. omega arith))
   by_width cs on One c run col r s q a e =
       let b = same_text run r s a in
@@ -118,9 +112,8 @@ module _ (columns : ℕ → Columns) (ascii : (c : ℕ) → 0x20 ≤ c → c ≤
   pub printable_one : (cs : List ℕ) → printable cs ≡ true → AllOne columns cs
   printable_one [] e = tt
   printable_one (c ∷ cs) e =
-      let p = both (leb 0x20 c && leb c 0x7E) (printable cs) e in
-      let q = both (leb 0x20 c) (leb c 0x7E) p.0 in
-      (ascii c (leb-true _ _ q.0) (leb-true _ _ q.1), printable_one cs p.1)
+      let p = and_parts (leb 0x20 c && leb c 0x7E) (printable cs) e in
+      (ascii c (grind (arith, nat_tests)) (grind (arith, nat_tests)), printable_one cs p.1)
 
   abbrev started : Row → Row
   started r = apply columns (pen Prompt) (apply columns (place 0) r)

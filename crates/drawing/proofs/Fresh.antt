@@ -1,13 +1,14 @@
 -- A character that was just written shows whole.
-use Rattle.std.proofs.Common.{◌≡◌, ℕ, zero, suc, ◌+◌, ◌<◌, ◌≤◌, Bool, true, false, ltb, leb, List, [], ◌∷◌, ◌++◌, length, get_or, Some, Option, sym, refl, ap, ◌∙◌, subst, ⊎_elim, arith, length-append, length-set, ltb-false, ltb-true, leb-false}
+use Rattle.std.proofs.Common.{◌≡◌, ℕ, zero, suc, ◌+◌, ◌<◌, ◌≤◌, Bool, true, false, List, [], ◌∷◌, ◌++◌, length, get_or, Some, Option, sym, refl, ap, ◌∙◌, subst, inl, inr, arith, length-append, length-set}
 use lib.Seq.{get_or-append_seam}
+use Rattle.std.proofs.lemmas.Bool.{cases_Bool, le-leb, true≢false}
 use Rattle.std.proofs.lemmas.List.{get_or-set_same, get_or-set_other}
 use Rattle.font.specs.declared.Columns.{Columns}
 use Rattle.font.specs.declared.Columns.TheVariants.{NoWidth, Zero, One, Two}
 use Rattle.font.specs.Labels.{columns_by, has_label}
 use Rattle.glass.specs.Row.{Row, Cell, cell, shown, right_half, blank_cell, is_right_half, width_of}
 use Rattle.glass.specs.Calls.{with_cells, at_column, cell_left_of, with_mark, marked, narrow, wide, if_it_fits, with_character, with_text}
-use Rattle.glass.proofs.Front.{Inside, decide}
+use Rattle.glass.proofs.Front.{Inside}
 use Rattle.glass.proofs.Text.{AllOne}
 use Rattle.glass.proofs.Keeps.{Still, Keeps, keeps_with, keeps_text}
 use Rattle.drawing.specs.Shows.{ShowsMark, ShowsBy}
@@ -26,17 +27,17 @@ anchored_kept r s p a = record {
   solid = ap is_right_half (p.cells a.cell a.left).ink ∙ a.solid;
 }
 
+-- two numbers with different answers are different
+below_other : (test : ℕ → Bool) (j x : ℕ) → j < suc x → test j ≡ false → test x ≡ true → j < x
+below_other test j x h s t = grind arith
+
 left_found : (x j : ℕ) (cells : List Cell) → j < x → is_right_half (get_or cells j blank_cell).ink ≡ false → (i : ℕ) × (cell_left_of x cells ≡ Some i)
 left_found zero j cells h s = absurd (omega arith)
 left_found (suc x) j cells h s =
-    ⊎_elim
-    (λ (t : is_right_half (get_or cells x blank_cell).ink ≡ true).
-    rw t (⊎_elim
-    (λ (u : ltb j x ≡ true). left_found x j cells (ltb-true _ _ u) s)
-    (λ (u : ltb j x ≡ false). let v = ltb-false _ _ u in let e : j ≡ x = omega arith in absurd (let o : ◌≡◌ {A = Bool} true false = sym t ∙ ap (λ (k : ℕ). is_right_half (get_or cells k blank_cell).ink) (sym e) ∙ s in let z : ◌≡◌ {A = ℕ} 0 1 = cc in omega arith))
-    (decide (ltb j x))))
-    (λ (t : is_right_half (get_or cells x blank_cell).ink ≡ false). rw t (x, refl))
-    (decide (is_right_half (get_or cells x blank_cell).ink))
+    elim (cases_Bool (is_right_half (get_or cells x blank_cell).ink)) [
+      | inl t ↦ rw t (left_found x j cells (below_other (λ k. is_right_half (get_or cells k blank_cell).ink) j x h s t) s)
+      | inr t ↦ rw t (x, refl)
+    ]
 
 mark_shows : (c : ℕ) (r : Row) → Inside r → Anchored r → ShowsMark (with_character Zero c r).cells r.column c
 mark_shows c r f a =
@@ -56,11 +57,7 @@ mark_shows c r f a =
     }
 
 pub fits : (n : ℕ) (cells : List Cell) (r : Row) → r.column + n ≤ width_of r → if_it_fits n cells r ≡ at_column (r.column + n) (with_cells cells r)
-fits n cells r h =
-    ⊎_elim
-    (λ (t : leb (r.column + n) (width_of r) ≡ true). rw t)
-    (λ (t : leb (r.column + n) (width_of r) ≡ false). let u = leb-false _ _ t in absurd (omega arith))
-    (decide (leb (r.column + n) (width_of r)))
+fits n cells r h = rw (le-leb (r.column + n) (width_of r) h)
 
 narrow_here : (c : ℕ) (r : Row) → Inside r → r.column + 1 ≤ width_of r → get_or (narrow c r) r.column blank_cell ≡ cell (shown c) r.pen
 narrow_here c r f h = get_or-set_same r.cells r.column (cell (shown c) r.pen) blank_cell (omega arith)
@@ -76,7 +73,7 @@ wide_right c r f h =
 
 -- a character without a label that fits
 pub character_shows : (w : Columns) (c : ℕ) (r : Row) → has_label w ≡ false → Inside r → Anchored r → r.column + columns_by w c ≤ width_of r → ShowsBy w (with_character w c r).cells r.column c
-character_shows NoWidth c r l f a h = absurd (let z : ◌≡◌ {A = Bool} true false = l in let o : ◌≡◌ {A = ℕ} 0 1 = cc in omega arith)
+character_shows NoWidth c r l f a h = absurd (true≢false l)
 character_shows Zero c r l f a h = mark_shows c r f a
 character_shows One c r l f a h =
     rw (fits 1 (narrow c r) r h) (ap (λ (x : Cell). x.ink) (narrow_here c r f h))

@@ -24,13 +24,13 @@ module _ (columns : ℕ → Columns) (ascii : (c : ℕ) → 0x20 ≤ c → c ≤
   pub record Goes (w : Columns) (c : ℕ) (run : List ℕ) (col : ℕ) (r : Row) : Type 0 where
     pub run' : List ℕ
     pub row' : Row
-    pub at : At columns ascii width run' (col + columns_by w c) row'
+    pub at : At columns width run' (col + columns_by w c) row'
     pub hands_on : (on : ℕ → List ℕ → List GlassCall) → apply_all columns (piece w width col run c on) r ≡ apply_all columns (on (col + columns_by w c) run') row'
     pub keeps : Keeps (with_text columns run r) (with_text columns run' row')
     pub shows : Anchored (with_text columns run r) → ShowsBy w (with_text columns run' row').cells col c
 
   -- a character without a label joins the run
-  joins : (w : Columns) (c n : ℕ) (run : List ℕ) (col : ℕ) (r : Row) → columns c ≡ w → has_label w ≡ false → columns_by w c ≡ n → At columns ascii width run col r
+  joins : (w : Columns) (c n : ℕ) (run : List ℕ) (col : ℕ) (r : Row) → columns c ≡ w → has_label w ≡ false → columns_by w c ≡ n → At columns width run col r
       → (with_character w c (with_text columns run r)).column ≡ col + n → col + n ≤ width
       → ((on : ℕ → List ℕ → List GlassCall) → apply_all columns (piece w width col run c on) r ≡ apply_all columns (on (col + columns_by w c) (run ++ (c ∷ []))) r)
       → Goes w c run col r
@@ -56,7 +56,7 @@ module _ (columns : ℕ → Columns) (ascii : (c : ℕ) → 0x20 ≤ c → c ≤
     each_reversed = λ k b. ap (λ (p : Pen). p.reversed) (text_writes columns (spelling c) r f (label_one columns ascii c) h k b).pen ∙ v;
   }
 
-  pub goes : (w : Columns) (c : ℕ) (run : List ℕ) (col : ℕ) (r : Row) → columns c ≡ w → At columns ascii width run col r → col + columns_by w c < width → Goes w c run col r
+  pub goes : (w : Columns) (c : ℕ) (run : List ℕ) (col : ℕ) (r : Row) → columns c ≡ w → At columns width run col r → col + columns_by w c < width → Goes w c run col r
   goes NoWidth c run col r q a h =
       let all : take (width - col) (spelling c) ≡ spelling c = take_all (width - col) (spelling c) (omega arith) in
       let R = with_text columns run r in
@@ -74,29 +74,29 @@ module _ (columns : ℕ → Columns) (ascii : (c : ℕ) → 0x20 ≤ c → c ≤
         row' = apply columns (pen ReverseOff) R2;
         at = record { inside = f2; full_width = text_width columns (spelling c) R1 ∙ wR ∙ a.full_width; column = k ∙ ap (λ (m : ℕ). m + length (spelling c)) a.column };
         hands_on = λ on.
-            sends columns ascii width run (spelled width col (take (width - col) (spelling c)) (λ j. on j [])) r
+            sends columns run (spelled width col (take (width - col) (spelling c)) (λ j. on j [])) r
             ∙ ap (λ (l : List ℕ). apply_all columns (spelled width col l (λ j. on j [])) R) all
-            ∙ spelled_on columns ascii width col (spelling c) (λ j. on j []) R h;
+            ∙ spelled_on columns width col (spelling c) (λ j. on j []) R h;
         keeps = record { on = kept.on; cells = kept.cells };
         shows = λ _. subst (λ (x : ℕ). ShowsLabel R2.cells x (spelling c)) a.column (label_shows c R1 f1 b refl);
       }
   goes Zero c run col r q a h =
       joins Zero c 0 run col r q refl refl a (omega (arith, a.column)) (omega arith)
-      (λ on. ap (λ (ks : List GlassCall). apply_all columns ks r) (goes_on columns ascii width col 0 run (λ k. on k (run ++ (c ∷ []))) (omega arith)))
+      (λ on. ap (λ (ks : List GlassCall). apply_all columns ks r) (goes_on columns width col 0 run (λ k. on k (run ++ (c ∷ []))) (omega arith)))
   goes One c run col r q a h =
       joins One c 1 run col r q refl refl a
       (fits_column 1 (narrow c (with_text columns run r)) (with_text columns run r) (omega (arith, a.column, a.full_width, text_width columns run r)) ∙ ap (λ m. m + 1) a.column) (omega arith)
-      (λ on. ap (λ (ks : List GlassCall). apply_all columns ks r) (goes_on columns ascii width col 1 run (λ k. on k (run ++ (c ∷ []))) (omega arith)))
+      (λ on. ap (λ (ks : List GlassCall). apply_all columns ks r) (goes_on columns width col 1 run (λ k. on k (run ++ (c ∷ []))) (omega arith)))
   goes Two c run col r q a h =
       joins Two c 2 run col r q refl refl a
       (fits_column 2 (wide c (with_text columns run r)) (with_text columns run r) (omega (arith, a.column, a.full_width, text_width columns run r)) ∙ ap (λ m. m + 2) a.column) (omega arith)
-      (λ on. ap (λ (ks : List GlassCall). apply_all columns ks r) (goes_on columns ascii width col 2 run (λ k. on k (run ++ (c ∷ []))) (omega arith)))
+      (λ on. ap (λ (ks : List GlassCall). apply_all columns ks r) (goes_on columns width col 2 run (λ k. on k (run ++ (c ∷ []))) (omega arith)))
 
   -- after a text that fits the cursor is past its columns
-  pub pieces_column : (cs : List ℕ) (run : List ℕ) (col : ℕ) (r : Row) → At columns ascii width run col r → col + text_columns columns cs < width
+  pub pieces_column : (cs : List ℕ) (run : List ℕ) (col : ℕ) (r : Row) → At columns width run col r → col + text_columns columns cs < width
       → (apply_all columns (pieces columns width col run cs) r).column ≡ col + text_columns columns cs
   pieces_column [] run col r a h =
-      ap (λ (x : Row). x.column) (ended_clears columns ascii width run col r (omega arith)) ∙ omega (arith, a.column)
+      ap (λ (x : Row). x.column) (ended_clears columns width run col r (omega arith)) ∙ omega (arith, a.column)
   pieces_column (c ∷ cs) run col r a h =
       let g = goes (columns c) c run col r refl a (omega arith) in
       ap (λ (x : Row). x.column) (g.hands_on (λ k more. pieces columns width k more cs))
@@ -104,7 +104,7 @@ module _ (columns : ℕ → Columns) (ascii : (c : ℕ) → 0x20 ≤ c → c ≤
       ∙ omega arith
 
   -- every character up to one that fits shows whole when the drawing ends
-  pub pieces_show : (cs : List ℕ) (run : List ℕ) (col : ℕ) (r : Row) → At columns ascii width run col r → Anchored (with_text columns run r)
+  pub pieces_show : (cs : List ℕ) (run : List ℕ) (col : ℕ) (r : Row) → At columns width run col r → Anchored (with_text columns run r)
       → (k : ℕ) → k < length cs → col + text_columns columns (take (suc k) cs) < width
       → ShowsWhole columns (apply_all columns (pieces columns width col run cs) r).cells (col + text_columns columns (take k cs)) (get_or cs k 0)
   pieces_show [] run col r a n k b h = absurd (omega arith)
@@ -113,7 +113,7 @@ module _ (columns : ℕ → Columns) (ascii : (c : ℕ) → 0x20 ≤ c → c ≤
       let z : col ≡ col + 0 = omega arith in
       let end = apply_all columns (pieces columns width (col + char_columns columns c) g.run' cs) g.row' in
       let s : ShowsBy (columns c) end.cells col c =
-      shows_kept (columns c) c col (with_text columns g.run' g.row') end (pieces_keep columns ascii width cs g.run' (col + char_columns columns c) g.row' g.at.inside) (omega (arith, g.at.column)) (g.shows n) in
+      shows_kept (columns c) c col (with_text columns g.run' g.row') end (pieces_keep columns width cs g.run' (col + char_columns columns c) g.row' g.at.inside) (omega (arith, g.at.column)) (g.shows n) in
       subst (λ (x : Row). ShowsBy (columns c) x.cells (col + 0) c) (sym (g.hands_on (λ k more. pieces columns width k more cs)))
       (subst (λ (x : ℕ). ShowsBy (columns c) end.cells x c) z s)
   pieces_show (c ∷ cs) run col r a n (suc k) b h =

@@ -2,8 +2,6 @@ pub mod Ones
 pub mod RunsOut
 pub mod Steps
 pub mod Progress
-pub mod Framed
-pub mod Tests
 pub mod Cost
 pub mod Allowed
 pub mod Forgets

@@ -1,70 +1,54 @@
--- How far a drawing has come: the calls that are left, piece by piece.
-use Rattle.std.proofs.Common.{◌≡◌, ℕ, ◌+◌, ◌-◌, ◌<◌, ◌≤◌, Bool, true, false, cond, ltb, leb, List, [], ◌∷◌, ◌++◌, length, get_or, take, drop, sym, ap, ◌∙◌, subst, arith}
-use Rattle.std.proofs.lemmas.List.{nil_from_length}
-use Rattle.std.proofs.lemmas.Bool.{le-ltb, lt-ltb}
+-- How far a drawing has come: the calls that are left, one after another and piece by piece.
+use Rattle.std.proofs.Common.{Bor, ◌≡◌, ℕ, ◌+◌, ◌-◌, ◌<◌, ◌≤◌, cond, ltb, leb, List, [], ◌∷◌, ◌++◌, length, get_or, take, ap, ◌∙◌, subst, arith}
 use Rattle.font.specs.declared.Columns.{Columns}
-use Rattle.font.specs.Labels.{label as spelling, has_label, char_columns}
+use Rattle.font.specs.Labels.{label as spelling, char_columns, text_columns}
 use Rattle.glass.specs.Row.{Row}
-use Rattle.glass.specs.Calls.{GlassCall, clear, Allowed}
-use Rattle.glass.specs.Ties.{Tied}
+use Rattle.glass.specs.Calls.{GlassCall, Allowed, Drew}
+use Rattle.glass.specs.Ties.{Tied, StaysTied}
 use Rattle.glass.proofs.Drew.{allowed_front}
-use Rattle.glass.proofs.DrewTied.{DrewTied, LeadsTied, leads_last, leads_none, leads_on}
+use Rattle.glass.proofs.DrewTied.{LeadsTied, both, leads_none, leads_on, untied_drew}
 use Rattle.drawing.specs.Drawing.{sent, reversed, pieces}
-use Rattle.drawing.specs.Piece.{Unlabelled, StopsRun}
+use Rattle.drawing.specs.declared.piece.Piece.TheVariants.{Run, Label}
+use Rattle.drawing.specs.Piece.{StandsFirst}
 use Rattle.drawing.proofs.Steps.{run_drawn, label_first}
 
--- a choice between nothing and a list is no longer than the list
-pub chosen_length : (b : Bool) (xs : List ℕ) → length (cond b [] xs) ≤ length xs
-chosen_length true xs = omega arith
-chosen_length false xs = omega arith
+-- Of the calls that are left the first, `now`, are allowed, and where they are made those of `later` are left.
+pub record Step {G : Type 0} (columns : ℕ → Columns) (row : G → Row) (spare : G → ℕ) (tied : G → Tied) (all now later : List GlassCall) (g h : G) : Type 0 where
+  pub allowed : Allowed columns now (row h) (spare h)
+  pub after : (i : G) → Drew columns row spare now h i → StaysTied now (tied h) (tied i) → LeadsTied columns row spare tied all later g i
 
-module _ {G : Type 0} (columns : ℕ → Columns) (row : G → Row) (spare : G → ℕ) (tied : G → Tied) (all : List GlassCall) (width : ℕ) (g : G) where
-  -- what is left is the drawing of `rest` from a column on
-  abbrev pub DrawingLeft : (col : ℕ) (rest : List ℕ) (h : G) → Type 0
-  DrawingLeft col rest h = LeadsTied columns row spare tied all (pieces columns width col [] rest) g h
+module _ {G : Type 0} {columns : ℕ → Columns} {row : G → Row} {spare : G → ℕ} {tied : G → Tied} {all : List GlassCall} {g h : G} where
+  pub step : (now later : List GlassCall) → LeadsTied columns row spare tied all (now ++ later) g h → Step columns row spare tied all now later g h
+  step now later left = record {
+    allowed = allowed_front columns now later (row h) (spare h) left.allowed;
+    after = λ i drew keeps. leads_on columns row spare tied all now later g h i left (both columns row spare tied drew keeps);
+  }
 
-  module _ (col : ℕ) (rest run after : List ℕ) (count reached : ℕ) (h : G)
-      (stands : rest ≡ run ++ after) (plain : Unlabelled columns run) (stop : StopsRun columns after) (within : count ≤ length run)
-      (joins : (more : List ℕ) → pieces columns width col [] (run ++ more) ≡ pieces columns width reached (take count run) (drop count run ++ more))
-      (past : count < length run → width < reached + char_columns columns (get_or run count 0))
-      (before : DrawingLeft col rest h) where
-    run_left : LeadsTied columns row spare tied all (sent (take count run) [] ++ pieces columns width reached [] (cond (ltb count (length run)) [] after)) g h
-    run_left = subst (λ (ks : List GlassCall). LeadsTied columns row spare tied all ks g h) (ap (pieces columns width col []) stands ∙ run_drawn columns width run after count reached col within plain stop joins past) before
+  pub may_call : {k : GlassCall} {ks : List GlassCall} → LeadsTied columns row spare tied all (k ∷ ks) g h → Allowed columns (k ∷ []) (row h) (spare h)
+  may_call {k} {ks} left = (step (k ∷ []) ks left).allowed
 
-    pub may_send : Allowed columns (sent (take count run) []) (row h) (spare h)
-    may_send = allowed_front columns (sent (take count run) []) _ (row h) (spare h) run_left.allowed
+  pub called : {k : GlassCall} {ks : List GlassCall} {i : G} → LeadsTied columns row spare tied all (k ∷ ks) g h
+      → record { drew : Drew columns row spare (k ∷ []) h i; keeps : StaysTied (k ∷ []) (tied h) (tied i) } → LeadsTied columns row spare tied all ks g i
+  called {k} {ks} {i} left made = (step (k ∷ []) ks left).after i made.drew made.keeps
 
-    pub run_on : (k : G) → DrewTied columns row spare tied (sent (take count run) []) h k → (left : List ℕ) → left ≡ cond (ltb count (length run)) [] after → DrawingLeft reached left k
-    run_on k drew left e = subst (λ (cs : List ℕ). DrawingLeft reached cs k) (sym e) (leads_on columns row spare tied all (sent (take count run) []) _ g h k run_left drew)
+  -- all were made
+  pub none_left : LeadsTied columns row spare tied all [] g h → Drew columns row spare all g h × StaysTied all (tied g) (tied h)
+  none_left left = let d = leads_none columns row spare tied all g h left in (untied_drew columns row spare tied d, d.stays_tied)
 
-  module _ (col : ℕ) (rest after : List ℕ) (code : ℕ) (h : G)
-      (stands : rest ≡ code ∷ after) (labelled : has_label (columns code) ≡ true) (inside : col ≤ width) (before : DrawingLeft col rest h) where
-    abbrev shown : List ℕ
-    shown = take (width - col) (spelling code)
+module _ {G : Type 0} {columns : ℕ → Columns} {row : G → Row} {spare : G → ℕ} {tied : G → Tied} {all : List GlassCall} {g h : G} (width col : ℕ) (rest after : List ℕ)
+    (inside : col ≤ width) (left : LeadsTied columns row spare tied all (pieces columns width col [] rest) g h) where
+  -- where a run stands first, its characters that fit go out, and then nothing if there are others
+  pub run_step : (run : Bor (List ℕ)) (count taken : ℕ) → StandsFirst columns rest (Run run) after
+      → taken ≡ text_columns columns (take count run.now) → taken ≤ width - col → (count < length run.now → width - col < taken + char_columns columns (get_or run.now count 0))
+      → Step columns row spare tied all (sent (take count run.now) []) (pieces columns width (col + taken) [] (cond (ltb count (length run.now)) [] after)) g h
+  run_step run count taken stands e fits past =
+      let drawn = run_drawn columns width run.now after count col taken stands.2 stands.3 e (omega arith) (λ more. omega (arith, past more)) in
+      step _ _ (subst (λ (ks : List GlassCall). LeadsTied columns row spare tied all ks g h) (ap (pieces columns width col []) stands.0 ∙ drawn) left)
 
-    label_left : LeadsTied columns row spare tied all (reversed shown [] ++ pieces columns width (col + length shown) [] (cond (leb width (col + length shown)) [] after)) g h
-    label_left = subst (λ (ks : List GlassCall). LeadsTied columns row spare tied all ks g h) (ap (pieces columns width col []) stands ∙ label_first columns width code col after labelled inside) before
-
-    pub may_label : Allowed columns (reversed shown []) (row h) (spare h)
-    may_label = allowed_front columns (reversed shown []) _ (row h) (spare h) label_left.allowed
-
-    pub label_on : (k : G) (n : ℕ) → DrewTied columns row spare tied (reversed shown []) h k → n ≡ col + length shown → (left : List ℕ) → left ≡ cond (leb width n) [] after → DrawingLeft n left k
-    label_on k n drew e left f =
-        let on = leads_on columns row spare tied all (reversed shown []) _ g h k label_left drew in
-        subst (λ (cs : List ℕ). DrawingLeft n cs k) (sym f) (subst (λ (m : ℕ). DrawingLeft m (cond (leb width m) [] after) k) (sym e) on)
-
-  module _ (col : ℕ) (rest : List ℕ) (h : G) (none : length rest ≡ 0) (before : DrawingLeft col rest h) where
-    end_left : LeadsTied columns row spare tied all (cond (ltb col width) (clear ∷ []) []) g h
-    end_left = subst (λ (cs : List ℕ). DrawingLeft col cs h) (nil_from_length rest none) before
-
-    clear_left : col < width → LeadsTied columns row spare tied all (clear ∷ []) g h
-    clear_left space = subst (λ (b : Bool). LeadsTied columns row spare tied all (cond b (clear ∷ []) []) g h) (lt-ltb col width space) end_left
-
-    pub may_clear : col < width → Allowed columns (clear ∷ []) (row h) (spare h)
-    may_clear space = (clear_left space).allowed
-
-    pub cleared_at_last : col < width → (k : G) → DrewTied columns row spare tied (clear ∷ []) h k → DrewTied columns row spare tied all g k
-    cleared_at_last space k drew = leads_last columns row spare tied all (clear ∷ []) g h k (clear_left space) drew
-
-    pub full_at_last : width ≤ col → DrewTied columns row spare tied all g h
-    full_at_last full = leads_none columns row spare tied all g h (subst (λ (b : Bool). LeadsTied columns row spare tied all (cond b (clear ∷ []) []) g h) (le-ltb col width full) end_left)
+  -- where a label stands first it goes out, and then nothing if it fills the row
+  pub label_step : (code : ℕ) → StandsFirst columns rest (Label code) after
+      → let shown = take (width - col) (spelling code) in
+      Step columns row spare tied all (reversed shown []) (pieces columns width (col + length shown) [] (cond (leb width (col + length shown)) [] after)) g h
+  label_step code stands =
+      let drawn = label_first columns width code col after stands.1 in
+      step _ _ (subst (λ (ks : List GlassCall). LeadsTied columns row spare tied all ks g h) (ap (pieces columns width col []) stands.0 ∙ drawn) left)

@@ -1,10 +1,11 @@
 -- In the row that a drawing of a well scrolled draft makes, the cursor is in sight.
-use Rattle.std.proofs.Common.{◌≡◌, ℕ, zero, suc, ◌+◌, ◌-◌, ◌<◌, ◌≤◌, min, true, List, [], ◌∷◌, ◌++◌, length, get_or, take, drop, sym, ap, ◌∙◌, subst, inl, inr, ⊎_elim, arith, length-append, length-drop}
+use Rattle.std.proofs.Common.{◌≡◌, ℕ, suc, ◌+◌, ◌-◌, ◌<◌, ◌≤◌, min, true, List, [], ◌∷◌, ◌++◌, length, get_or, take, drop, sym, ap, ◌∙◌, subst, inl, inr, ⊎_elim, arith, length-append, length-drop}
 use lib.ListN.{length-replicate}
 use Rattle.std.proofs.lemmas.List.{drop-take, get_or-drop}
 use Rattle.font.specs.declared.Columns.{Columns}
 use Rattle.font.specs.declared.Columns.TheVariants.{One}
 use Rattle.font.specs.Labels.{text_columns, between}
+use Rattle.font.proofs.Texts.{text_columns_take_more}
 use Rattle.glass.specs.declared.PenChange.TheVariants.{Plain, Prompt}
 use Rattle.glass.specs.Row.{Row, blank_cell, blank_row, is_right_half, width_of}
 use Rattle.glass.specs.Calls.{place, pen, apply, apply_all, with_text, at_column}
@@ -23,12 +24,6 @@ use Rattle.drawing.proofs.Fresh.{Anchored, text_writes}
 use Rattle.drawing.proofs.Goes.{pieces_show}
 use Rattle.glass.proofs.Drew.{apply_append}
 
-taken_more : (columns : ℕ → Columns) (m n : ℕ) (cs : List ℕ) → m ≤ n → text_columns columns (take m cs) ≤ text_columns columns (take n cs)
-taken_more columns zero n cs h = omega arith
-taken_more columns (suc m) zero cs h = absurd (omega arith)
-taken_more columns (suc m) (suc n) [] h = omega arith
-taken_more columns (suc m) (suc n) (c ∷ cs) h = let i = taken_more columns m n cs (omega arith) in omega arith
-
 module _ (columns : ℕ → Columns) (ascii : (c : ℕ) → 0x20 ≤ c → c ≤ 0x7E → columns c ≡ One) (width : ℕ) where
   -- the two spaces, the label and a space, and then a plain space
   abbrev titled : List ℕ → Row → Row
@@ -40,7 +35,7 @@ module _ (columns : ℕ → Columns) (ascii : (c : ℕ) → 0x20 ≤ c → c ≤
   space : AllOne columns (0x20 ∷ [])
   space = (ascii 0x20 (omega arith) (omega arith), tt)
 
-  titled_at : (label : List ℕ) → printable label ≡ true → text_start label ≤ width → At columns ascii width [] (length label + 3) (titled label (blank_row width))
+  titled_at : (label : List ℕ) → printable label ≡ true → text_start label ≤ width → At columns width [] (length label + 3) (titled label (blank_row width))
   titled_at label p h =
       let head = 0x20 ∷ 0x20 ∷ (label ++ (0x20 ∷ [])) in
       let r = apply columns (pen Prompt) (apply columns (place 0) (blank_row width)) in
@@ -51,7 +46,7 @@ module _ (columns : ℕ → Columns) (ascii : (c : ℕ) → 0x20 ≤ c → c ≤
       let f = inside_text columns head r f0 in
       record { inside = f; full_width = text_width columns head r ∙ n0; column = text_column columns head r ones (omega arith) ∙ omega arith }
 
-  pub head_at : (label : List ℕ) → printable label ≡ true → text_start label ≤ width → At columns ascii width [] (text_start label) (headed label)
+  pub head_at : (label : List ℕ) → printable label ≡ true → text_start label ≤ width → At columns width [] (text_start label) (headed label)
   head_at label p h =
       let a = titled_at label p h in
       let r = titled label (blank_row width) in
@@ -92,7 +87,7 @@ module _ (columns : ℕ → Columns) (ascii : (c : ℕ) → 0x20 ≤ c → c ≤
     at_index : (n : ℕ) → d.offset + n < d.line.place
         → ShowsWhole columns (texted label shown_text).cells (text_start label + shown_columns columns (line d.line.text (d.offset + n)) d.offset) (get_or d.line.text (d.offset + n) 0)
     at_index n h =
-        let m = taken_more columns (suc n) (d.line.place - d.offset) shown_text (omega arith) in
+        let m = text_columns_take_more columns (suc n) (d.line.place - d.offset) shown_text (omega arith) in
         let s = pieces_show columns ascii width shown_text [] (text_start label) (headed label) (head_at label printed (omega arith)) (head_anchored label printed (omega arith)) n
         (omega (arith, length-drop d.offset d.line.text, inside)) (omega (arith, m, shown_to_place, cursor_free)) in
         subst (λ (cs : List ℕ). ShowsWhole columns (texted label shown_text).cells (text_start label + text_columns columns cs) (get_or d.line.text (d.offset + n) 0)) (sym (drop-take d.offset n d.line.text))

@@ -1,10 +1,11 @@
 -- The pieces of a text: what is drawn of the first character, of a run, and of what comes after it.
-use Rattle.std.proofs.Common.{◌≡◌, ℕ, zero, suc, ◌+◌, ◌-◌, ◌<◌, ◌≤◌, Bool, true, false, cond, ltb, leb, List, [], ◌∷◌, ◌++◌, length, get_or, take, drop, sym, refl, ap, ◌∙◌, arith}
-use Rattle.std.proofs.lemmas.List.{take_more, drop_more, drop_all}
-use Rattle.std.proofs.lemmas.Bool.{le-ltb, lt-ltb, leb-true, ltb-true, ltb-false}
+use Rattle.std.proofs.Common.{◌≡◌, ℕ, zero, suc, ◌+◌, ◌-◌, ◌<◌, ◌≤◌, Bool, true, false, cond, ltb, leb, List, [], ◌∷◌, ◌++◌, length, get_or, take, drop, sym, refl, ap, ◌∙◌, add-zero, add_assoc, append_assoc, arith}
+use Rattle.std.proofs.lemmas.List.{append-nil, drop_more, drop_all}
+use Rattle.std.proofs.lemmas.Bool.{false≢true, true≢false, le-ltb, lt-ltb, ltb-true, ltb-false}
+use Rattle.std.proofs.lemmas.Bool.Decides.{nat_tests}
 use Rattle.font.specs.declared.Columns.{Columns}
 use Rattle.font.specs.declared.Columns.TheVariants.{NoWidth, Zero, One, Two}
-use Rattle.font.specs.Labels.{label as spelling, has_label, columns_by, char_columns}
+use Rattle.font.specs.Labels.{label as spelling, has_label, columns_by, char_columns, text_columns}
 use Rattle.glass.specs.Calls.{GlassCall, clear}
 use Rattle.drawing.specs.Drawing.{sent, ended, reversed, joined, piece, pieces}
 use Rattle.drawing.specs.Piece.{Unlabelled, StopsRun}
@@ -21,7 +22,7 @@ unlabelled_at columns (c ∷ cs) (suc i) u h = unlabelled_at columns cs i u.1 (o
 module _ (columns : ℕ → Columns) (width : ℕ) where
   joins_by : (w : Columns) (c col : ℕ) (run : List ℕ) (on : ℕ → List ℕ → List GlassCall) → has_label w ≡ false
       → piece w width col run c on ≡ joined width col run (columns_by w c) (λ k. on k (run ++ (c ∷ [])))
-  joins_by NoWidth c col run on e = absurd (let z : ◌≡◌ {A = ℕ} 0 1 = cc in omega arith)
+  joins_by NoWidth c col run on e = absurd (true≢false e)
   joins_by Zero c col run on e = refl
   joins_by One c col run on e = refl
   joins_by Two c col run on e = refl
@@ -29,9 +30,9 @@ module _ (columns : ℕ → Columns) (width : ℕ) where
   spells_by : (w : Columns) (c col : ℕ) (run : List ℕ) (on : ℕ → List ℕ → List GlassCall) → has_label w ≡ true
       → let l = take (width - col) (spelling c) in piece w width col run c on ≡ sent run (reversed l (cond (leb width (col + length l)) [] (on (col + length l) [])))
   spells_by NoWidth c col run on e = refl
-  spells_by Zero c col run on e = absurd (let z : ◌≡◌ {A = ℕ} 0 1 = cc in omega arith)
-  spells_by One c col run on e = absurd (let z : ◌≡◌ {A = ℕ} 0 1 = cc in omega arith)
-  spells_by Two c col run on e = absurd (let z : ◌≡◌ {A = ℕ} 0 1 = cc in omega arith)
+  spells_by Zero c col run on e = absurd (false≢true e)
+  spells_by One c col run on e = absurd (false≢true e)
+  spells_by Two c col run on e = absurd (false≢true e)
 
   -- a character that fits joins the run
   character_joins : (c col : ℕ) (run cs : List ℕ) → has_label (columns c) ≡ false → col + char_columns columns c ≤ width
@@ -53,46 +54,44 @@ module _ (columns : ℕ → Columns) (width : ℕ) where
       ∙ sent_first run _
       ∙ ap (λ ks. sent run [] ++ ks) (sym (spells_by (columns c) c col [] (λ k more. pieces columns width k more cs) stop))
 
+  -- in a full row nothing is left to draw
+  none_in_full : (reached : ℕ) (cs : List ℕ) → cond (leb width reached) [] (pieces columns width reached [] cs) ≡ pieces columns width reached [] (cond (leb width reached) [] cs)
+  none_in_full reached cs = grind (arith, nat_tests)
+
   -- a label goes out, and drawing stops where it fills the row
-  pub label_first : (c col : ℕ) (cs : List ℕ) → has_label (columns c) ≡ true → col ≤ width
+  pub label_first : (c col : ℕ) (cs : List ℕ) → has_label (columns c) ≡ true
       → let l = take (width - col) (spelling c) in
       pieces columns width col [] (c ∷ cs) ≡ reversed l [] ++ pieces columns width (col + length l) [] (cond (leb width (col + length l)) [] cs)
-  label_first c col cs e inside =
-      spells_by (columns c) c col [] (λ k more. pieces columns width k more cs) e
-      ∙ ap (λ ks. reversed (take (width - col) (spelling c)) ks) (left (leb width (col + length (take (width - col) (spelling c)))) refl)
-    where
-      k : ℕ
-      k = col + length (take (width - col) (spelling c))
+  label_first c col cs e =
+      let l = take (width - col) (spelling c) in
+      spells_by (columns c) c col [] (λ k more. pieces columns width k more cs) e ∙ ap (reversed l) (none_in_full (col + length l) cs)
 
-      left : (b : Bool) → leb width (col + length (take (width - col) (spelling c))) ≡ b
-          → cond b [] (pieces columns width (col + length (take (width - col) (spelling c))) [] cs) ≡ pieces columns width (col + length (take (width - col) (spelling c))) [] (cond b [] cs)
-      left true t = rw (le-ltb (col + length (take (width - col) (spelling c))) width (leb-true width _ t))
-      left false t = refl
-
-  -- one character more of a run
-  pub joins_more : (run : List ℕ) (i col start : ℕ) → i < length run → Unlabelled columns run → col + char_columns columns (get_or run i 0) ≤ width
-      → ((rest : List ℕ) → pieces columns width start [] (run ++ rest) ≡ pieces columns width col (take i run) (drop i run ++ rest))
-      → (rest : List ℕ) → pieces columns width start [] (run ++ rest) ≡ pieces columns width (col + char_columns columns (get_or run i 0)) (take (i + 1) run) (drop (i + 1) run ++ rest)
-  joins_more run i col start h u fits before rest =
-      before rest
-      ∙ ap (λ cs. pieces columns width col (take i run) (cs ++ rest)) (drop_more run i 0 h)
-      ∙ character_joins (get_or run i 0) col (take i run) (drop (i + 1) run ++ rest) (unlabelled_at columns run i u h) fits
-      ∙ ap (λ more. pieces columns width (col + char_columns columns (get_or run i 0)) more (drop (i + 1) run ++ rest)) (sym (take_more run i 0 h))
+  -- the characters of a run that fit join what is to be sent
+  run_joins : (n : ℕ) (run : List ℕ) (col : ℕ) (front rest : List ℕ) → Unlabelled columns run → col + text_columns columns (take n run) ≤ width
+      → pieces columns width col front (run ++ rest) ≡ pieces columns width (col + text_columns columns (take n run)) (front ++ take n run) (drop n run ++ rest)
+  run_joins zero run col front rest plain fits = simp (add-zero, append-nil)
+  run_joins (suc n) [] col front rest plain fits = simp (add-zero, append-nil)
+  run_joins (suc n) (c ∷ cs) col front rest plain fits =
+      character_joins c col front (cs ++ rest) plain.0 (omega arith)
+      ∙ run_joins n cs (col + char_columns columns c) (front ++ (c ∷ [])) rest plain.1 (omega arith)
+      ∙ simp (add_assoc, append_assoc)
 
   -- what is drawn of a run of which `count` characters fit, and what is left then
-  pub run_drawn : (run after : List ℕ) (count col start : ℕ) → count ≤ length run → Unlabelled columns run → StopsRun columns after
-      → ((rest : List ℕ) → pieces columns width start [] (run ++ rest) ≡ pieces columns width col (take count run) (drop count run ++ rest))
-      → (count < length run → width < col + char_columns columns (get_or run count 0))
-      → pieces columns width start [] (run ++ after) ≡ sent (take count run) [] ++ pieces columns width col [] (cond (ltb count (length run)) [] after)
-  run_drawn run after count col start h u stop joins past = joins after ∙ by_rest (ltb count (length run)) refl
+  pub run_drawn : (run after : List ℕ) (count col taken : ℕ) → Unlabelled columns run → StopsRun columns after
+      → taken ≡ text_columns columns (take count run) → col + taken ≤ width → (count < length run → width < col + taken + char_columns columns (get_or run count 0))
+      → pieces columns width col [] (run ++ after) ≡ sent (take count run) [] ++ pieces columns width (col + taken) [] (cond (ltb count (length run)) [] after)
+  run_drawn run after count col taken plain stop e fits past =
+      run_joins count run col [] after plain (omega arith)
+      ∙ ap (λ n. pieces columns width (col + n) (take count run) (drop count run ++ after)) (sym e)
+      ∙ by_rest (ltb count (length run)) refl
     where
       by_rest : (b : Bool) → ltb count (length run) ≡ b
-          → pieces columns width col (take count run) (drop count run ++ after) ≡ sent (take count run) [] ++ pieces columns width col [] (cond b [] after)
+          → pieces columns width (col + taken) (take count run) (drop count run ++ after) ≡ sent (take count run) [] ++ pieces columns width (col + taken) [] (cond b [] after)
       by_rest true t =
           let there = ltb-true count (length run) t in
-          ap (λ cs. pieces columns width col (take count run) (cs ++ after)) (drop_more run count 0 there)
-          ∙ character_stops (get_or run count 0) col (take count run) (drop (count + 1) run ++ after) (unlabelled_at columns run count u there) (past there)
-          ∙ sent_first (take count run) (cond (ltb col width) (clear ∷ []) [])
+          ap (λ cs. pieces columns width (col + taken) (take count run) (cs ++ after)) (drop_more run count 0 there)
+          ∙ character_stops (get_or run count 0) (col + taken) (take count run) (drop (count + 1) run ++ after) (unlabelled_at columns run count plain there) (past there)
+          ∙ sent_first (take count run) (cond (ltb (col + taken) width) (clear ∷ []) [])
       by_rest false t =
-          ap (λ cs. pieces columns width col (take count run) (cs ++ after)) (drop_all count run (ltb-false count (length run) t))
-          ∙ run_first col (take count run) after stop
+          ap (λ cs. pieces columns width (col + taken) (take count run) (cs ++ after)) (drop_all count run (ltb-false count (length run) t))
+          ∙ run_first (col + taken) (take count run) after stop

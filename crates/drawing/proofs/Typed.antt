@@ -1,60 +1,32 @@
 -- A letter typed at the end: its one text makes the row that a drawing would make.
-use Rattle.std.proofs.Common.{◌≡◌, ℕ, ◌+◌, ◌-◌, ◌<◌, ◌≤◌, min, true, false, List, [], ◌∷◌, ◌++◌, length, drop, sym, ap, ◌∙◌, inl, inr, ⊎_elim, arith, length-append}
-use Rattle.std.proofs.lemmas.List.{take_all, drop_all, drop-append-le}
+use Rattle.std.proofs.Common.{◌≡◌, ℕ, ◌+◌, ◌-◌, ◌<◌, ◌≤◌, min, true, false, List, [], ◌∷◌, ◌++◌, length, drop, sym, ap, ◌∙◌, arith, length-append}
+use Rattle.std.proofs.lemmas.List.{take_all, drop-append-le}
 use Rattle.font.specs.declared.Columns.{Columns}
 use Rattle.font.specs.declared.Columns.TheVariants.{One}
 use Rattle.font.specs.Labels.{text_columns, has_label}
+use Rattle.font.proofs.Texts.{text_columns_append}
 use Rattle.glass.specs.Row.{blank_row}
 use Rattle.glass.specs.Calls.{apply_all, with_character, at_column}
+use Rattle.draft.proofs.Letters.{inserted_at_end, inserted_well as well_after}
 use Rattle.draft.specs.Line.{Line, line, with_inserted}
 use Rattle.draft.specs.Draft.{draft}
-use Rattle.draft.specs.Scroll.{margin, shown_columns, WellScrolled}
+use Rattle.draft.specs.Scroll.{shown_columns, WellScrolled}
 use Rattle.drawing.specs.Ascii.{printable}
 use Rattle.drawing.specs.Drawing.{text_start, cursor_column, drawing}
 use Rattle.drawing.proofs.Letter.{one_more}
 use Rattle.drawing.proofs.Goes.{pieces_column}
 use Rattle.drawing.proofs.Sight.{head_at, headed, texted, drawing_is}
 
-columns_append : (columns : ℕ → Columns) (xs ys : List ℕ) → text_columns columns (xs ++ ys) ≡ text_columns columns xs + text_columns columns ys
-columns_append columns [] ys = omega arith
-columns_append columns (x ∷ xs) ys = let i = columns_append columns xs ys in omega arith
-
--- a character at the end of a line
-pub inserted_at_end : (c : ℕ) (l : Line) → l.place ≡ length l.text → with_inserted (c ∷ []) l ≡ line (l.text ++ (c ∷ [])) (l.place + 1)
-inserted_at_end c l e =
-    ap (λ (xs : List ℕ). line (xs ++ ((c ∷ []) ++ drop l.place l.text)) (l.place + 1)) (take_all l.place l.text (omega arith))
-    ∙ ap (λ (xs : List ℕ). line (l.text ++ ((c ∷ []) ++ xs)) (l.place + 1)) (drop_all l.place l.text (omega arith))
-
 module _ (columns : ℕ → Columns) where
   pub shown_at_end : (t : List ℕ) (p o : ℕ) → length t ≤ p → shown_columns columns (line t p) o ≡ text_columns columns (drop o t)
   shown_at_end t p o h = ap (λ (xs : List ℕ). text_columns columns (drop o xs)) (take_all p t h)
 
   dropped_more : (t : List ℕ) (c o : ℕ) → o ≤ length t → text_columns columns (drop o (t ++ (c ∷ []))) ≡ text_columns columns (drop o t) + text_columns columns (c ∷ [])
-  dropped_more t c o h = ap (text_columns columns) (drop-append-le o t (c ∷ []) h) ∙ columns_append columns (drop o t) (c ∷ [])
-
-  -- more shows on the left of the cursor
-  shows_more : (c : ℕ) (l : Line) (o : ℕ) → l.place ≡ length l.text → o ≤ l.place → shown_columns columns l o ≤ shown_columns columns (with_inserted (c ∷ []) l) o
-  shows_more c l o e h =
-      let a = shown_at_end l.text l.place o (omega arith) in
-      let b = ap (λ (x : Line). shown_columns columns x o) (inserted_at_end c l e) in
-      let n = length-append l.text (c ∷ []) in
-      let d = shown_at_end (l.text ++ (c ∷ [])) (l.place + 1) o (omega arith) in
-      let m = dropped_more l.text c o (omega arith) in
-      omega arith
+  dropped_more t c o h = ap (text_columns columns) (drop-append-le o t (c ∷ []) h) ∙ text_columns_append columns (drop o t) (c ∷ [])
 
   pub inserted_well : (room c : ℕ) (l : Line) (o : ℕ) → l.place ≡ length l.text → WellScrolled columns room l o → shown_columns columns (with_inserted (c ∷ []) l) o + 5 ≤ room
       → WellScrolled columns room (with_inserted (c ∷ []) l) o
-  inserted_well room c l o e w h = record {
-    offset_up_to_place = omega (arith, w.offset_up_to_place);
-    margin_on_the_right = omega arith;
-    no_further_than_needed =
-        ⊎_elim inl
-        (λ t. inr (⊎_elim
-        (λ (u : margin ≤ shown_columns columns l o). inl (omega (arith, shows_more c l o e w.offset_up_to_place)))
-        (λ (u : room - margin < shown_columns columns l (o - 1)). inr (omega (arith, shows_more c l (o - 1) e (omega (arith, w.offset_up_to_place)))))
-        t))
-        w.no_further_than_needed;
-  }
+  inserted_well room c l o end well fits = well_after columns c l end room o well (omega arith)
 
 module _ (columns : ℕ → Columns) (ascii : (c : ℕ) → 0x20 ≤ c → c ≤ 0x7E → columns c ≡ One) (width : ℕ) (label : List ℕ) (printed : printable label ≡ true) where
   -- with the place at the end of a text that fits, the cursor is where the text left it

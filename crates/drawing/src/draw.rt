@@ -1,50 +1,44 @@
 // Draws the pieces of a draft, and a label in front of them, on any glass that can pay for it.
-ghost use Rattle.std.specs.Prelude.{◌≡◌, ℕ, ◌+◌, ◌-◌, ◌<◌, ◌≤◌, List, [], ◌∷◌, ◌++◌, length, take, drop, if◌then◌else◌, slice_index};
-ghost use Rattle.font.specs.Labels.{label as spelling, char_columns};
-ghost use Rattle.glass.specs.Row.{widest};
+ghost use Rattle.std.specs.Prelude.{◌≡◌, ℕ, ◌+◌, ◌-◌, ◌<◌, ◌≤◌, [], ◌∷◌, ◌++◌, length, take, slice_index};
+ghost use Rattle.font.specs.Labels.{label as spelling, char_columns, text_columns};
 ghost use Rattle.glass.specs.Calls.{Allowed, Drew};
 ghost use Rattle.glass.specs.Ties.{StaysTied};
 ghost use Rattle.drawing.specs.Drawing.{sent, reversed, pieces, framed, longest_label};
-ghost use Rattle.drawing.specs.Piece.{Unlabelled};
 
 use crate::piece::{Piece, next_piece};
 use crate::sure;
+use arrayvec::ArrayVec;
 use font::Font;
 use font::label::Label;
 use font::measure::columns_in;
+use glass::calls::Call;
 use glass::{Glass, PenChange};
 
-/// How much of a run fits, and the column after it.
+/// How much of a run fits, and the columns that it takes.
 #[derive(Clone, Copy)]
 struct Fit {
     count: usize,
-    column: usize,
+    columns: usize,
 }
 
-/// How many characters of a run fit in a row of a width, from a column on.
-fn fitting<F: Font>(run: &[u32], column: usize, width: usize) -> Fit
-    requires unlabelled { Unlabelled F.Font.columns run.now }
-    requires inside { (column ≤ width) × (width ≤ widest) }
-    ensures bounds { (result.count ≤ length run.now) × (result.column ≤ width) }
-    ensures joins { (rest : List ℕ) → pieces F.Font.columns width column [] (run.now ++ rest) ≡ pieces F.Font.columns width result.column (take result.count run.now) (drop result.count run.now ++ rest) }
-    ensures stops { result.count < length run.now → width < result.column + char_columns F.Font.columns (slice_index run.now result.count) }
+/// How many characters of a run fit in so many columns.
+fn fitting<F: Font>(run: &[u32], room: usize) -> Fit
+    ensures some { result.count ≤ length run.now }
+    ensures taken { result.columns ≡ text_columns F.Font.columns (take result.count run.now) }
+    ensures fits { result.columns ≤ room }
+    ensures stops { result.count < length run.now → room < result.columns + char_columns F.Font.columns (slice_index run.now result.count) }
 {
-    let mut at = 0;
-    let mut reached = column;
-    while at < run.len() {
-        let next = reached + columns_in::<F>(run[at]);
-        if next > width {
-            return Fit {
-                count: at,
-                column: reached,
-            };
+    let mut columns = 0;
+    for (count, code) in run.iter().enumerate() {
+        let more = columns_in::<F>(*code);
+        if more > room - columns {
+            return Fit { count, columns };
         }
-        reached = next;
-        at += 1;
+        columns += more;
     }
     Fit {
-        count: at,
-        column: reached,
+        count: run.len(),
+        columns,
     }
 }
 
@@ -54,40 +48,31 @@ fn send<G: Glass>(glass: &mut G, run: &[u32])
     ensures drew { Drew G.Font.Font.columns G.Glass.row G.Glass.spare (sent run.now []) glass.old glass.new }
     ensures keeps { StaysTied (sent run.now []) (G.Glass.tied glass.old) (G.Glass.tied glass.new) }
 {
-    match run {
-        [] => {}
-        [_, ..] => sure::text(glass, run),
+    if !run.is_empty() {
+        sure::perform(glass, Call::Text(run));
     }
 }
 
-/// A label, reversed and cut to the columns left. Gives the column after it.
-fn draw_label<G: Glass>(glass: &mut G, code: u32, column: usize, width: usize) -> usize
-    requires inside { (column ≤ width) × (width ≤ widest) }
-    requires allowed { Allowed G.Font.Font.columns (reversed (take (width - column) (spelling code)) []) (G.Glass.row glass.old) (G.Glass.spare glass.old) }
-    ensures value { result ≡ column + length (take (width - column) (spelling code)) }
-    ensures bound { result ≤ width }
-    ensures drew { Drew G.Font.Font.columns G.Glass.row G.Glass.spare (reversed (take (width - column) (spelling code)) []) glass.old glass.new }
-    ensures keeps { StaysTied (reversed (take (width - column) (spelling code)) []) (G.Glass.tied glass.old) (G.Glass.tied glass.new) }
+/// A label, reversed and cut to so many columns. Gives the columns that it takes.
+fn draw_label<G: Glass>(glass: &mut G, code: u32, room: usize) -> usize
+    requires allowed { Allowed G.Font.Font.columns (reversed (take room (spelling code)) []) (G.Glass.row glass.old) (G.Glass.spare glass.old) }
+    ensures value { result ≡ length (take room (spelling code)) }
+    ensures fits { result ≤ room }
+    ensures drew { Drew G.Font.Font.columns G.Glass.row G.Glass.spare (reversed (take room (spelling code)) []) glass.old glass.new }
+    ensures keeps { StaysTied (reversed (take room (spelling code)) []) (G.Glass.tied glass.old) (G.Glass.tied glass.new) }
 {
     let label = Label::of(code);
-    let shown = label.truncated(width - column);
-    sure::pen(glass, PenChange::ReverseOn);
-    sure::text(glass, shown);
-    sure::pen(glass, PenChange::ReverseOff);
-    column + shown.len()
-}
-
-/// The characters that are still to be drawn: none once drawing has stopped.
-fn left_after(stopped: bool, after: &[u32]) -> &[u32]
-    ensures value { result.now ≡ (if stopped then [] else after.now) }
-{
-    if stopped { &[] } else { after }
+    let shown = label.truncated(room);
+    sure::perform(glass, Call::Pen(PenChange::ReverseOn));
+    sure::perform(glass, Call::Text(shown));
+    sure::perform(glass, Call::Pen(PenChange::ReverseOff));
+    shown.len()
 }
 
 /// The characters from a column on, and the rest of the row cleared. Drawing stops after a label that fills the row, and before a
 /// character that would pass its end.
 pub fn draw_text<G: Glass>(glass: &mut G, chars: &[u32], start: usize, width: usize)
-    requires inside { (start ≤ width) × (width ≤ widest) }
+    requires inside { start ≤ width }
     requires allowed { Allowed G.Font.Font.columns (pieces G.Font.Font.columns width start [] chars.now) (G.Glass.row glass.old) (G.Glass.spare glass.old) }
     ensures drew { Drew G.Font.Font.columns G.Glass.row G.Glass.spare (pieces G.Font.Font.columns width start [] chars.now) glass.old glass.new }
     ensures keeps { StaysTied (pieces G.Font.Font.columns width start [] chars.now) (G.Glass.tied glass.old) (G.Glass.tied glass.new) }
@@ -97,65 +82,58 @@ pub fn draw_text<G: Glass>(glass: &mut G, chars: &[u32], start: usize, width: us
     while let Some((piece, after)) = next_piece::<G::Font>(rest) {
         match piece {
             Piece::Run(run) => {
-                let Fit {
-                    count,
-                    column: reached,
-                } = fitting::<G::Font>(run, column, width);
-                send(glass, &run[0..count]);
-                column = reached;
-                rest = left_after(count < run.len(), after);
+                let Fit { count, columns } = fitting::<G::Font>(run, width - column);
+                send(glass, &run[..count]);
+                column += columns;
+                if count < run.len() {
+                    break;
+                }
             }
             Piece::Label(code) => {
-                column = draw_label(glass, code, column, width);
-                rest = left_after(column >= width, after);
+                column += draw_label(glass, code, width - column);
+                if column == width {
+                    break;
+                }
             }
         }
+        rest = after;
     }
     if column < width {
-        sure::clear(glass);
+        sure::perform(glass, Call::Clear);
     }
 }
 
-/// The most characters of a label, and of a label with two spaces before it and one after.
+/// The most characters of a label.
 pub const LONGEST_LABEL: usize = 32;
 
-const LONGEST_TITLE: usize = 35;
-
-/// A label as it stands on the row.
-#[derive(Clone, Copy)]
-struct Title {
-    chars: [u32; LONGEST_TITLE],
-    len: usize,
-}
+/// Two spaces come before a label, and one after it.
+const LONGEST_TITLE: usize = LONGEST_LABEL + 3;
 
 /// Two spaces, the label, and a space.
-fn titled(label: &[u32]) -> Title
+fn titled(label: &[u32]) -> ArrayVec<u32, LONGEST_TITLE>
     requires short { length label.now ≤ longest_label }
-    ensures bounds { (result.len ≤ 35) × (length result.chars ≡ 35) }
-    ensures value { take result.len result.chars ≡ 0x20 ∷ 0x20 ∷ (label.now ++ (0x20 ∷ [])) }
+    ensures value { result.items ≡ 0x20 ∷ 0x20 ∷ (label.now ++ (0x20 ∷ [])) }
 {
-    let mut chars = [0x20; LONGEST_TITLE];
-    chars[2..2 + label.len()].copy_from_slice(label);
-    Title {
-        chars,
-        len: label.len() + 3,
-    }
+    let mut title = ArrayVec::new();
+    title.push(0x20);
+    title.push(0x20);
+    title.try_extend_from_slice(label).unwrap();
+    title.push(0x20);
+    title
 }
 
 /// The label, the characters after it, and the cursor placed.
 pub fn draw<G: Glass>(glass: &mut G, label: &[u32], shown: &[u32], cursor: usize, width: usize)
-    requires inside { (length label.now ≤ longest_label) × (length label.now + 4 ≤ width) × (width ≤ widest) }
+    requires inside { (length label.now ≤ longest_label) × (length label.now + 4 ≤ width) }
     requires allowed { Allowed G.Font.Font.columns (framed G.Font.Font.columns label.now shown.now cursor width) (G.Glass.row glass.old) (G.Glass.spare glass.old) }
     ensures drew { Drew G.Font.Font.columns G.Glass.row G.Glass.spare (framed G.Font.Font.columns label.now shown.now cursor width) glass.old glass.new }
     ensures keeps { StaysTied (framed G.Font.Font.columns label.now shown.now cursor width) (G.Glass.tied glass.old) (G.Glass.tied glass.new) }
 {
-    let title = titled(label);
-    let title_len = title.len;
-    sure::place(glass, 0);
-    sure::pen(glass, PenChange::Prompt);
-    sure::text(glass, &title.chars[0..title_len]);
-    sure::pen(glass, PenChange::Plain);
-    sure::text(glass, &[0x20]);
+    sure::perform(glass, Call::Place(0));
+    sure::perform(glass, Call::Pen(PenChange::Prompt));
+    sure::perform(glass, Call::Text(&titled(label)));
+    sure::perform(glass, Call::Pen(PenChange::Plain));
+    sure::perform(glass, Call::Text(&[0x20]));
     draw_text(glass, shown, label.len() + 4, width);
-    sure::place(glass, cursor);
+    sure::perform(glass, Call::Place(cursor));
 }

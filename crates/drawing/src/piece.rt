@@ -21,23 +21,17 @@ fn run_length<F: Font>(chars: &[u32]) -> usize
     ensures value { result ≡ prefix_len (λ c. not (has_label (F.Font.columns c))) chars.now }
     ensures bound { result ≤ length chars.now }
 {
-    let mut at = 0;
-    while at < chars.len() && !has_label::<F>(chars[at]) {
-        at += 1;
-    }
-    at
+    chars.iter().take_while(|c| !has_label::<F>(**c)).count()
 }
 
 /// The piece that stands first, and the characters after it.
 pub fn next_piece<F: Font>(chars: &[u32]) -> Option<(Piece<'_>, &[u32])>
     ensures value { MatchOption result (length chars.now ≡ 0) (λ found. StandsFirst F.Font.columns chars.now found.0 found.1.now) }
 {
-    let [first, after @ ..] = chars else {
-        return None;
-    };
+    let (first, after) = chars.split_first()?;
     if has_label::<F>(*first) {
         return Some((Piece::Label(*first), after));
     }
-    let count = run_length::<F>(chars);
-    Some((Piece::Run(&chars[0..count]), &chars[count..]))
+    let (run, after) = chars.split_at(run_length::<F>(chars));
+    Some((Piece::Run(run), after))
 }

@@ -1,85 +1,47 @@
-use Rattle.std.proofs.Common.{◌≡◌, ℕ, ◌-◌, List, [], ◌∷◌, ◌++◌, take, sym, ap, ◌∙◌, subst, arith}
-use Rattle.glass.specs.Calls.{text, Allowed}
-use Rattle.glass.proofs.DrewTied.{DrewTied, both, untied_drew}
-use Rattle.drawing.proofs.Framed.{may_title, may_pen_again, may_space, may_draw_text, may_place_cursor, framed_drawn}
+use Rattle.std.proofs.Common.{◌≡◌, ◌∷◌, ◌++◌, [], ◌∙◌}
+use Rattle.glass.specs.declared.PenChange.TheVariants.{Plain}
+use Rattle.glass.specs.Calls.{place, pen, text}
+use Rattle.glass.proofs.DrewTied.{LeadsTied, leads_first}
+use Rattle.drawing.specs.Drawing.{pieces, text_start, framed}
+use Rattle.drawing.proofs.Progress.{step, may_call, called, none_left}
+use Rattle.drawing.proofs.draw.draw.Given.{Over}
+use Rattle.drawing.proofs.draw.draw.Goals.{After-deref}
 use Rattle.drawing.proofs.draw.draw.Goals as goal
 
-pub text-requires : goal.text-requires
-text-requires g c =
-    let cols = g.G.Font.Font.columns in
-    let row = g.G.Glass.row in
-    let spare = g.G.Glass.spare in
-    let tied = g.G.Glass.tied in
-    let title : take (c.titled-title.result.len - 0) c.titled-title.result.chars ≡ 0x20 ∷ 0x20 ∷ (c.args.label.now ++ (0x20 ∷ [])) = ap (λ (n : ℕ). take n c.titled-title.result.chars) (omega arith) ∙ c.titled-title.ensures.value in
-    let i = c.pen.new.glass in
-    record {
-      allowed = subst (λ (x : List ℕ). Allowed cols (text x ∷ []) (row i) (spare i)) (sym title)
-          (may_title cols row spare tied c.args.label.now c.args.shown.now c.args.cursor c.args.width c.args.glass.now c.place.new.glass c.requires.allowed (both cols row spare tied c.place.ensures.drew c.place.ensures.keeps) i (both cols row spare tied c.pen.ensures.drew c.pen.ensures.keeps));
-    }
+-- the label is next
+label_left : (g : Over) (c : After-deref g) → let columns = g.G.Font.Font.columns in
+    LeadsTied columns g.G.Glass.row g.G.Glass.spare g.G.Glass.tied (framed columns c.args.label.now c.args.shown.now c.args.cursor c.args.width)
+    (text c.deref.result.now ∷ pen Plain ∷ text (0x20 ∷ []) ∷ (pieces columns c.args.width (text_start c.args.label.now) [] c.args.shown.now ++ (place c.args.cursor ∷ []))) c.args.glass.now c.perform-2.new.glass
+label_left g c =
+    let columns = g.G.Font.Font.columns in
+    let all = framed columns c.args.label.now c.args.shown.now c.args.cursor c.args.width in
+    let first = leads_first columns g.G.Glass.row g.G.Glass.spare g.G.Glass.tied all c.args.glass.now c.requires.allowed in
+    let title : c.deref.result.now ≡ 0x20 ∷ 0x20 ∷ (c.args.label.now ++ (0x20 ∷ [])) = c.deref.ensures.0 ∙ c.titled.ensures.value in
+    rw title (called (called first c.perform.ensures) c.perform-2.ensures)
 
-pub pen-requires-2 : goal.pen-requires-2
-pen-requires-2 g c =
-    let cols = g.G.Font.Font.columns in
-    let row = g.G.Glass.row in
-    let spare = g.G.Glass.spare in
-    let tied = g.G.Glass.tied in
-    let title : take (c.titled-title.result.len - 0) c.titled-title.result.chars ≡ 0x20 ∷ 0x20 ∷ (c.args.label.now ++ (0x20 ∷ [])) = ap (λ (n : ℕ). take n c.titled-title.result.chars) (omega arith) ∙ c.titled-title.ensures.value in
-    let i = c.pen.new.glass in
-    let j = c.text.new.glass in
-    let d2 = subst (λ (x : List ℕ). DrewTied cols row spare tied (text x ∷ []) i j) title (both cols row spare tied c.text.ensures.drew c.text.ensures.keeps) in
-    record { allowed = may_pen_again cols row spare tied c.args.label.now c.args.shown.now c.args.cursor c.args.width c.args.glass.now c.place.new.glass c.requires.allowed (both cols row spare tied c.place.ensures.drew c.place.ensures.keeps) i (both cols row spare tied c.pen.ensures.drew c.pen.ensures.keeps) j d2 }
+pub perform-requires-3 : goal.perform-requires-3
+perform-requires-3 g c = record { allowed = may_call (label_left g (goal.at.perform-requires-3 g c).After-deref) }
 
-pub text-requires-2 : goal.text-requires-2
-text-requires-2 g c =
-    let cols = g.G.Font.Font.columns in
-    let row = g.G.Glass.row in
-    let spare = g.G.Glass.spare in
-    let tied = g.G.Glass.tied in
-    let title : take (c.titled-title.result.len - 0) c.titled-title.result.chars ≡ 0x20 ∷ 0x20 ∷ (c.args.label.now ++ (0x20 ∷ [])) = ap (λ (n : ℕ). take n c.titled-title.result.chars) (omega arith) ∙ c.titled-title.ensures.value in
-    let i = c.pen.new.glass in
-    let j = c.text.new.glass in
-    let d2 = subst (λ (x : List ℕ). DrewTied cols row spare tied (text x ∷ []) i j) title (both cols row spare tied c.text.ensures.drew c.text.ensures.keeps) in
-    record { allowed = may_space cols row spare tied c.args.label.now c.args.shown.now c.args.cursor c.args.width c.args.glass.now c.place.new.glass c.requires.allowed (both cols row spare tied c.place.ensures.drew c.place.ensures.keeps) i (both cols row spare tied c.pen.ensures.drew c.pen.ensures.keeps) j d2 c.pen-2.new.glass (both cols row spare tied c.pen-2.ensures.drew c.pen-2.ensures.keeps) }
+pub perform-requires-4 : goal.perform-requires-4
+perform-requires-4 g c = record { allowed = may_call (called (label_left g (goal.at.perform-requires-4 g c).After-deref) c.perform-3.ensures) }
 
-pub draw_text-requires : goal.draw_text-requires
-draw_text-requires g c =
-    let cols = g.G.Font.Font.columns in
-    let row = g.G.Glass.row in
-    let spare = g.G.Glass.spare in
-    let tied = g.G.Glass.tied in
-    let title : take (c.titled-title.result.len - 0) c.titled-title.result.chars ≡ 0x20 ∷ 0x20 ∷ (c.args.label.now ++ (0x20 ∷ [])) = ap (λ (n : ℕ). take n c.titled-title.result.chars) (omega arith) ∙ c.titled-title.ensures.value in
-    let i = c.pen.new.glass in
-    let j = c.text.new.glass in
-    let d2 = subst (λ (x : List ℕ). DrewTied cols row spare tied (text x ∷ []) i j) title (both cols row spare tied c.text.ensures.drew c.text.ensures.keeps) in
-    record {
-      inside = (c.requires.inside.1, c.requires.inside.2);
-      allowed = may_draw_text cols row spare tied c.args.label.now c.args.shown.now c.args.cursor c.args.width c.args.glass.now c.place.new.glass c.requires.allowed (both cols row spare tied c.place.ensures.drew c.place.ensures.keeps) i (both cols row spare tied c.pen.ensures.drew c.pen.ensures.keeps) j d2 c.pen-2.new.glass (both cols row spare tied c.pen-2.ensures.drew c.pen-2.ensures.keeps) c.text-2.new.glass (both cols row spare tied c.text-2.ensures.drew c.text-2.ensures.keeps);
-    }
+pub perform-requires-5 : goal.perform-requires-5
+perform-requires-5 g c = record { allowed = may_call (called (called (label_left g (goal.at.perform-requires-5 g c).After-deref) c.perform-3.ensures) c.perform-4.ensures) }
 
-pub place-requires-2 : goal.place-requires-2
-place-requires-2 g c =
-    let cols = g.G.Font.Font.columns in
-    let row = g.G.Glass.row in
-    let spare = g.G.Glass.spare in
-    let tied = g.G.Glass.tied in
-    let title : take (c.titled-title.result.len - 0) c.titled-title.result.chars ≡ 0x20 ∷ 0x20 ∷ (c.args.label.now ++ (0x20 ∷ [])) = ap (λ (n : ℕ). take n c.titled-title.result.chars) (omega arith) ∙ c.titled-title.ensures.value in
-    let i = c.pen.new.glass in
-    let j = c.text.new.glass in
-    let d2 = subst (λ (x : List ℕ). DrewTied cols row spare tied (text x ∷ []) i j) title (both cols row spare tied c.text.ensures.drew c.text.ensures.keeps) in
-    record { allowed = may_place_cursor cols row spare tied c.args.label.now c.args.shown.now c.args.cursor c.args.width c.args.glass.now c.place.new.glass c.requires.allowed (both cols row spare tied c.place.ensures.drew c.place.ensures.keeps) i (both cols row spare tied c.pen.ensures.drew c.pen.ensures.keeps) j d2 c.pen-2.new.glass (both cols row spare tied c.pen-2.ensures.drew c.pen-2.ensures.keeps) c.text-2.new.glass (both cols row spare tied c.text-2.ensures.drew c.text-2.ensures.keeps) c.draw_text.new.glass (both cols row spare tied c.draw_text.ensures.drew c.draw_text.ensures.keeps) }
+pub draw_text-requires-clause-allowed : goal.draw_text-requires-clause-allowed
+draw_text-requires-clause-allowed g c =
+    let left = label_left g (goal.at.draw_text-requires-clause-allowed g c).After-deref in
+    (step (pieces g.G.Font.Font.columns c.args.width (text_start c.args.label.now) [] c.args.shown.now) (place c.args.cursor ∷ []) (called (called (called left c.perform-3.ensures) c.perform-4.ensures) c.perform-5.ensures)).allowed
+
+pub perform-requires-6 : goal.perform-requires-6
+perform-requires-6 g c =
+    let left = label_left g (goal.at.perform-requires-6 g c).After-deref in
+    let text_step = step (pieces g.G.Font.Font.columns c.args.width (text_start c.args.label.now) [] c.args.shown.now) (place c.args.cursor ∷ []) (called (called (called left c.perform-3.ensures) c.perform-4.ensures) c.perform-5.ensures) in
+    record { allowed = may_call (text_step.after c.draw_text.new.glass c.draw_text.ensures.drew c.draw_text.ensures.keeps) }
 
 pub returns : goal.returns
 returns g c =
-    let cols = g.G.Font.Font.columns in
-    let row = g.G.Glass.row in
-    let spare = g.G.Glass.spare in
-    let tied = g.G.Glass.tied in
-    let title : take (c.titled-title.result.len - 0) c.titled-title.result.chars ≡ 0x20 ∷ 0x20 ∷ (c.args.label.now ++ (0x20 ∷ [])) = ap (λ (n : ℕ). take n c.titled-title.result.chars) (omega arith) ∙ c.titled-title.ensures.value in
-    let i = c.pen.new.glass in
-    let j = c.text.new.glass in
-    let d2 = subst (λ (x : List ℕ). DrewTied cols row spare tied (text x ∷ []) i j) title (both cols row spare tied c.text.ensures.drew c.text.ensures.keeps) in
-    let all = framed_drawn cols row spare tied c.args.label.now c.args.shown.now c.args.cursor c.args.width c.args.glass.now c.place.new.glass c.requires.allowed (both cols row spare tied c.place.ensures.drew c.place.ensures.keeps) i (both cols row spare tied c.pen.ensures.drew c.pen.ensures.keeps) j d2 c.pen-2.new.glass (both cols row spare tied c.pen-2.ensures.drew c.pen-2.ensures.keeps) c.text-2.new.glass (both cols row spare tied c.text-2.ensures.drew c.text-2.ensures.keeps) c.draw_text.new.glass (both cols row spare tied c.draw_text.ensures.drew c.draw_text.ensures.keeps) c.place-2.new.glass (both cols row spare tied c.place-2.ensures.drew c.place-2.ensures.keeps) in
-    record {
-      drew = untied_drew cols row spare tied all;
-      keeps = all.stays_tied;
-    }
+    let left = label_left g (goal.at.returns g c).After-deref in
+    let text_step = step (pieces g.G.Font.Font.columns c.args.width (text_start c.args.label.now) [] c.args.shown.now) (place c.args.cursor ∷ []) (called (called (called left c.perform-3.ensures) c.perform-4.ensures) c.perform-5.ensures) in
+    let all = none_left (called (text_step.after c.draw_text.new.glass c.draw_text.ensures.drew c.draw_text.ensures.keeps) c.perform-6.ensures) in
+    record { drew = all.0; keeps = all.1 }

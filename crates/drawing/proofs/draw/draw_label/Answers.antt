@@ -1,40 +1,29 @@
-use Rattle.std.proofs.Common.{◌≡◌, ℕ, ◌+◌, ◌-◌, ◌≤◌, List, [], ◌∷◌, length, take, ap, ◌∙◌, subst, arith, length-take}
+use Rattle.std.proofs.Common.{◌≡◌, ℕ, [], ◌∷◌, List, take, sym, ap, ◌∙◌, subst}
 use Rattle.font.specs.Labels.{label as spelling}
-use Rattle.glass.specs.declared.PenChange.TheVariants.{ReverseOn, ReverseOff}
-use Rattle.glass.specs.Calls.{pen, text}
-use Rattle.glass.proofs.DrewTied.{DrewTied, both, drew_on, drew_then, untied_drew}
+use Rattle.glass.specs.declared.PenChange.TheVariants.{ReverseOff}
+use Rattle.glass.specs.Calls.{pen}
+use Rattle.glass.proofs.DrewTied.{LeadsTied, leads_first}
+use Rattle.drawing.specs.Drawing.{reversed}
+use Rattle.drawing.proofs.Progress.{may_call, called, none_left}
+use Rattle.drawing.proofs.draw.draw_label.Given.{Over}
+use Rattle.drawing.proofs.draw.draw_label.Goals.{After-perform-2}
 use Rattle.drawing.proofs.draw.draw_label.Goals as goal
 
-pub pen-requires-2 : goal.pen-requires-2
-pen-requires-2 g c =
-    let cols = g.G.Font.Font.columns in
+-- before the last call
+last_left : (g : Over) (c : After-perform-2 g)
+    → LeadsTied g.G.Font.Font.columns g.G.Glass.row g.G.Glass.spare g.G.Glass.tied (reversed (take c.args.room (spelling c.args.code)) []) (pen ReverseOff ∷ []) c.args.glass.now c.perform-2.new.glass
+last_left g c =
+    let columns = g.G.Font.Font.columns in
     let row = g.G.Glass.row in
     let spare = g.G.Glass.spare in
     let tied = g.G.Glass.tied in
-    let l = take (c.args.width - c.args.column) (spelling c.args.code) in
-    let e : c.truncated-shown.result.now ≡ l = c.truncated-shown.ensures.value ∙ ap (take (c.args.width - c.args.column)) c.of-label.ensures.value in
-    let h = c.pen.new.glass in
-    let k = c.text.new.glass in
-    let a = drew_on cols row spare tied (pen ReverseOn ∷ []) (text l ∷ pen ReverseOff ∷ []) c.args.glass.now h c.requires.allowed (both cols row spare tied c.pen.ensures.drew c.pen.ensures.keeps) in
-    record { allowed = drew_on cols row spare tied (text l ∷ []) (pen ReverseOff ∷ []) h k a (subst (λ (x : List ℕ). DrewTied cols row spare tied (text x ∷ []) h k) e (both cols row spare tied c.text.ensures.drew c.text.ensures.keeps)) }
+    let all = reversed (take c.args.room (spelling c.args.code)) [] in
+    let e : c.truncated-shown.result.now ≡ take c.args.room (spelling c.args.code) = c.truncated-shown.ensures.value ∙ ap (take c.args.room) c.of-label.ensures.value in
+    let first = subst (λ (cs : List ℕ). LeadsTied columns row spare tied all (reversed cs []) c.args.glass.now c.args.glass.now) (sym e) (leads_first columns row spare tied all c.args.glass.now c.requires.allowed) in
+    called (called first c.perform.ensures) c.perform-2.ensures
 
-pub returns : goal.returns
-returns g c =
-    let cols = g.G.Font.Font.columns in
-    let row = g.G.Glass.row in
-    let spare = g.G.Glass.spare in
-    let tied = g.G.Glass.tied in
-    let l = take (c.args.width - c.args.column) (spelling c.args.code) in
-    let e : c.truncated-shown.result.now ≡ l = c.truncated-shown.ensures.value ∙ ap (take (c.args.width - c.args.column)) c.of-label.ensures.value in
-    let f = c.args.glass.now in
-    let h = c.pen.new.glass in
-    let k = c.text.new.glass in
-    let n : length l ≤ c.args.width - c.args.column = omega (arith, length-take (c.args.width - c.args.column) (spelling c.args.code)) in
-    let all = drew_then cols row spare tied (pen ReverseOn ∷ []) (text l ∷ pen ReverseOff ∷ []) f h c.pen-2.new.glass (both cols row spare tied c.pen.ensures.drew c.pen.ensures.keeps)
-    (drew_then cols row spare tied (text l ∷ []) (pen ReverseOff ∷ []) h k c.pen-2.new.glass (subst (λ (x : List ℕ). DrewTied cols row spare tied (text x ∷ []) h k) e (both cols row spare tied c.text.ensures.drew c.text.ensures.keeps)) (both cols row spare tied c.pen-2.ensures.drew c.pen-2.ensures.keeps)) in
-    record {
-      value = ap (λ (xs : List ℕ). c.args.column + length xs) e;
-      bound = omega (arith, ap length e, n, c.requires.inside.0);
-      drew = untied_drew cols row spare tied all;
-      keeps = all.stays_tied;
-    }
+pub perform-requires-3 : goal.perform-requires-3
+perform-requires-3 g c = record { allowed = may_call (last_left g (goal.at.perform-requires-3 g c).After-perform-2) }
+
+pub returns-clause-keeps : goal.returns-clause-keeps
+returns-clause-keeps g c = (none_left (called (last_left g (goal.at.returns-clause-keeps g c).After-perform-2) c.perform-3.ensures)).1

@@ -1,13 +1,13 @@
-use Rattle.std.proofs.Common.{◌+◌, ◌≤◌, get_or, arith}
-use Rattle.font.specs.Labels.{char_columns}
-use Rattle.drawing.proofs.Steps.{joins_more}
+use Rattle.std.proofs.Common.{get_or, take, ap, ◌∙◌, arith}
+use Rattle.std.proofs.lemmas.List.{take_more}
+use Rattle.font.specs.Labels.{text_columns}
+use Rattle.font.proofs.Texts.{text_columns_push}
 use Rattle.drawing.proofs.draw.fitting.Goals as goal
 
-pub loop-at-preserved : goal.loop-at-preserved
-loop-at-preserved g c =
-    let width-of-next = c.columns_in.ensures.value in
-    let fits : c.loop-at.reached + char_columns g.F.Font.columns (get_or c.args.run.now c.loop-at.at 0) ≤ c.args.width = omega (arith, width-of-next, c.if-next-width.false) in (
-      omega arith,
-      c.if-next-width.false,
-      λ rest. rw width-of-next (joins_more g.F.Font.columns c.args.width c.args.run.now c.loop-at.at c.loop-at.reached c.args.column c.loop-at-test.true c.requires.unlabelled fits c.loop-at.invariant.2 rest),
-    )
+pub loop-count-preserved : goal.loop-count-preserved
+loop-count-preserved g c =
+    let run = c.args.run.now in
+    let n = c.loop-count.count in
+    let columns = g.F.Font.columns in
+    let one_more = ap (text_columns columns) (take_more run n 0 c.loop-count-test.true) ∙ text_columns_push columns (take n run) (get_or run n 0) in
+    record { taken = omega (arith, one_more, c.columns_in-more.ensures.value); fits = omega arith }
