@@ -5,7 +5,7 @@
 use cells::cell_row::CellRow;
 use font::foyer::FoyerFont;
 use jump::goto::Jump;
-use prompt::keys::{KeyCode, Modifiers};
+use prompt::keys::{KeyCode, KeyEvent, Modifiers};
 use prompt::state::Prompt;
 use std::io;
 use text::refusal::Refusal;
@@ -15,7 +15,11 @@ fn seventh() -> Result<Jump, Refusal> {
     let mut row: CellRow<FoyerFont> = CellRow::new(40)?;
     let mut prompt = Prompt::open(b"Go to line:", b"")?;
     prompt.draw(&mut row)?;
-    prompt.key(&mut row, Modifiers::None, KeyCode::Char, 0x37)?;
+    let seven = KeyEvent {
+        key: KeyCode::Char(0x37),
+        modifiers: Modifiers::None,
+    };
+    prompt.key(&mut row, seven)?;
     let text = prompt.finish();
     let jump = text.jump(10)?;
     Ok(jump)

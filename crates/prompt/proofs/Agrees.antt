@@ -31,30 +31,30 @@ scrolled_agrees columns w s =
 pub with_draft_agrees : (d : Draft) (s : Session) → ledger (with_draft d s) ≡ book.with_line d.line (ledger s)
 with_draft_agrees d s = ap (λ (ls : List Line). lined ls s.hand) (map-set (λ (d : Draft). d.line) s.drafts s.hand d)
 
-operated_agrees : (columns : ℕ → Columns) (o : Operation) (c : ℕ) (s : Session) → ledger (operated columns o c s) ≡ book.after_operation columns o c (ledger s)
-operated_agrees columns Finish c s = refl
-operated_agrees columns Cancel c s = refl
-operated_agrees columns (Edit e) c s =
-    with_draft_agrees (editing columns e c (draft_in_hand s)) s
-    ∙ ap (λ (l : Line). book.with_line (edited columns e c l) (ledger s)) (sym (in_hand_agrees s))
-operated_agrees columns Previous c s = refl
-operated_agrees columns Next c s = ap (λ (n : ℕ). lined (ledger s).lines (hand_on n s.hand)) (sym (length-map s.drafts (λ (d : Draft). d.line)))
-operated_agrees columns Ignore c s = refl
+operated_agrees : (columns : ℕ → Columns) (o : Operation) (s : Session) → ledger (operated columns o s) ≡ book.after_operation columns o (ledger s)
+operated_agrees columns Finish s = refl
+operated_agrees columns Cancel s = refl
+operated_agrees columns (Edit e) s =
+    with_draft_agrees (editing columns e (draft_in_hand s)) s
+    ∙ ap (λ (l : Line). book.with_line (edited columns e l) (ledger s)) (sym (in_hand_agrees s))
+operated_agrees columns Previous s = refl
+operated_agrees columns Next s = ap (λ (n : ℕ). lined (ledger s).lines (hand_on n s.hand)) (sym (length-map s.drafts (λ (d : Draft). d.line)))
+operated_agrees columns Ignore s = refl
 
-scrolled_after : (columns : ℕ → Columns) (w : ℕ) (o : Operation) (c : ℕ) (s : Session) → ledger (scrolled columns w (operated columns o c s)) ≡ book.after_operation columns o c (ledger s)
-scrolled_after columns w o c s = scrolled_agrees columns w (operated columns o c s) ∙ operated_agrees columns o c s
+scrolled_after : (columns : ℕ → Columns) (w : ℕ) (o : Operation) (s : Session) → ledger (scrolled columns w (operated columns o s)) ≡ book.after_operation columns o (ledger s)
+scrolled_after columns w o s = scrolled_agrees columns w (operated columns o s) ∙ operated_agrees columns o s
 
-operation_agrees : (columns : ℕ → Columns) (w : ℕ) (o : Operation) (c : ℕ) (s : Session) → ledger (after_operation columns w o c s) ≡ book.after_operation columns o c (ledger s)
-operation_agrees columns w Finish c s = refl
-operation_agrees columns w Cancel c s = refl
-operation_agrees columns w (Edit e) c s = scrolled_after columns w (Edit e) c s
-operation_agrees columns w Previous c s = scrolled_after columns w Previous c s
-operation_agrees columns w Next c s = scrolled_after columns w Next c s
-operation_agrees columns w Ignore c s = refl
+operation_agrees : (columns : ℕ → Columns) (w : ℕ) (o : Operation) (s : Session) → ledger (after_operation columns w o s) ≡ book.after_operation columns o (ledger s)
+operation_agrees columns w Finish s = refl
+operation_agrees columns w Cancel s = refl
+operation_agrees columns w (Edit e) s = scrolled_after columns w (Edit e) s
+operation_agrees columns w Previous s = scrolled_after columns w Previous s
+operation_agrees columns w Next s = scrolled_after columns w Next s
+operation_agrees columns w Ignore s = refl
 
 pub ledger_agrees : (columns : ℕ → Columns) (w : ℕ) (x : Request) (s : Session) → ledger (after columns w x s) ≡ entered columns x (ledger s)
 ledger_agrees columns w draw s = refl
-ledger_agrees columns w (key m k c) s = operation_agrees columns w (operation m k c) c s
+ledger_agrees columns w (key event) s = operation_agrees columns w (operation event) s
 ledger_agrees columns w (paste bytes) s =
     scrolled_agrees columns w (with_draft (inserting (characters bytes) (draft_in_hand s)) s)
     ∙ with_draft_agrees (inserting (characters bytes) (draft_in_hand s)) s

@@ -1,5 +1,5 @@
 -- What holds of a prompt and its glass from call to call.
-use Rattle.std.proofs.Common.{◌≡◌, ℕ, zero, suc, ◌+◌, ◌-◌, ◌<◌, ◌≤◌, min, Bool, true, false, cond, ◌||◌, ltb, List, [], ◌∷◌, ◌++◌, map, length, get_or, take, None, sym, refl, ap, ◌∙◌, subst, inl, ⊎_elim, arith, length-append, length-set, length-take, ltb-false, ltb-true, eqb-true}
+use Rattle.std.proofs.Common.{◌≡◌, ℕ, ◌+◌, ◌-◌, ◌<◌, ◌≤◌, min, Bool, true, false, cond, List, [], ◌∷◌, ◌++◌, map, length, get_or, None, sym, refl, ap, ◌∙◌, subst, inl, ⊎_elim, arith, length-append, length-set, ltb-true, eqb-true, Err}
 use lib.ListN.{length-map, length-replicate}
 use lib.Seq.{get_or-append_seam}
 use Rattle.std.proofs.lemmas.List.{get_or-set_same}
@@ -9,9 +9,8 @@ use Rattle.font.specs.Labels.{has_label}
 use Rattle.text.specs.declared.refusal.Refusal.{Refusal}
 use Rattle.glass.specs.Row.{Row, blank_row, blank_cell, width_of}
 use Rattle.glass.specs.Calls.{apply_all, with_character}
-use Rattle.draft.specs.declared.state.PromptState.{PromptState}
 use Rattle.draft.specs.Line.{Line, line, empty_line, with_inserted}
-use Rattle.draft.specs.Draft.{Draft, draft, draft_of}
+use Rattle.draft.specs.Draft.{Draft, draft}
 use Rattle.draft.specs.Scroll.{shown_columns, margin, WellScrolled, clamped}
 use Rattle.text.specs.Utf8.{characters}
 use Rattle.draft.proofs.Clamp.{clamp_scrolls_well, clamp_keeps_well_scrolled}
@@ -19,72 +18,52 @@ use Rattle.draft.specs.declared.action.DisplayAction.{DisplayAction}
 use Rattle.draft.specs.declared.action.DisplayAction.TheVariants as action
 use Rattle.prompt.specs.declared.keys.Operation.{Operation}
 use Rattle.prompt.specs.declared.keys.Operation.TheVariants as operation
-use Rattle.prompt.specs.declared.keys.Edit.{Edit}
 use Rattle.prompt.specs.declared.keys.Edit.TheVariants.{Insert, Remove, Move, Transpose}
 use Rattle.prompt.specs.declared.keys.Motion.{Motion}
 use Rattle.prompt.specs.declared.keys.Motion.TheVariants as motion
 use Rattle.prompt.specs.declared.state.Prompt.{Prompt}
-use Rattle.prompt.specs.declared.session.Reply.{Reply}
-use Rattle.prompt.specs.declared.session.Reply.TheVariants.{Refused}
 use Rattle.drawing.specs.Ascii.{printable}
-use Rattle.prompt.specs.Keys.{operation as operation_of}
-use Rattle.prompt.specs.Edits.{editing, answer_to_motion, answer_to_edit}
+use Rattle.prompt.specs.Keys.{operation as operation_of, typing}
+use Rattle.prompt.specs.Edits.{editing, answer_to_motion}
 use Rattle.draft.specs.Edits.{inserting, redraw_if, goes_out_alone}
-use Rattle.draft.proofs.Drafts.{drafts_are_sound}
 use Rattle.drawing.specs.Drawing.{text_start, drawing}
-use Rattle.prompt.specs.Requests.{Request, draw, key, paste, resize}
+use Rattle.prompt.specs.Requests.{Request, draw, key, paste, resize, Reply}
 use Rattle.prompt.specs.Ledger.{opened}
-use Rattle.prompt.specs.Refused.{refusal, width_after}
+use Rattle.prompt.specs.Refused.{own_reasons, width_after}
 use Rattle.prompt.specs.Session.{Session, session, empty_draft, draft_in_hand, ledger, newly_opened, room, drawn, with_draft, scrolled, operated, after_operation, after, action_of, calls_by, glass_calls, refused_now, drawn_at, OneCall}
-use Rattle.prompt.specs.Promise.{ShowsThePrompt, RowShowsTheDraft}
+use Rattle.prompt.specs.Promise.{ShowsThePrompt}
 use Rattle.drawing.specs.Sight.{CursorInSight}
 use Rattle.drawing.proofs.Forgets.{drawn_same}
-use Rattle.prompt.specs.Runs.{Run}
+use Rattle.history.specs.Session.{remembered_texts}
+use Rattle.prompt.specs.Opening.{opened_with}
+use Rattle.prompt.specs.Runs.{Run, SessionShowsTheDraft}
 use Rattle.prompt.proofs.Runs.{seen, decided, row_shows_the_draft}
 use Rattle.prompt.proofs.Widths.{width_is}
+use Rattle.prompt.proofs.Ready.{ready, sound_in_hand}
+use Rattle.history.proofs.InHand.{sessions_are_sound}
 use Rattle.drawing.proofs.Sight.{sight}
 use Rattle.drawing.proofs.Typed.{inserted_well, typed_row}
 use Rattle.prompt.proofs.Unmoved.{silent, Well, unmoved}
-use Rattle.drawing.proofs.Tests.{both, neither, flipped, absent}
+use Rattle.std.proofs.lemmas.Bool.{and_parts as both, not-true as flipped}
 
 -- the draft in hand is one of the drafts
 abbrev Held : Session → Type 0
 Held s = s.hand < length s.drafts
 
 prompt_held : (p : Prompt) → Held (session p)
-prompt_held p =
-    let h = p.history in
-    omega (arith, length-map (take h.count h.entries) draft_of, length-take h.count h.entries, h.ok.0, h.ok.1, h.ok.2)
+prompt_held p = (sessions_are_sound p.history).hand_within
 
-inside_each : (xs : List PromptState) (i : ℕ) → (get_or (map draft_of xs) i empty_draft).line.place ≤ length (get_or (map draft_of xs) i empty_draft).line.text
-inside_each [] i = omega arith
-inside_each (x ∷ xs) zero = (drafts_are_sound x).place_up_to_end
-inside_each (x ∷ xs) (suc i) = inside_each xs i
-
-place_inside : (p : Prompt) → (draft_in_hand (session p)).line.place ≤ length (draft_in_hand (session p)).line.text
-place_inside p = inside_each (take p.history.count p.history.entries) p.history.active_index
-
-label_fits : (p : Prompt) → text_start (session p).label ≤ p.label_len + 4
-label_fits p = omega (arith, length-take p.label_len p.label)
-
--- a call that is not refused draws at a width with room for the label and five columns
-in_range : (x : Request) (n w s m : ℕ) → refusal x n w s m ≡ None → n + 9 ≤ width_after x w
-in_range draw n w s m e = ltb-false _ _ (neither (ltb w (n + 9)) (ltb 512 w) (absent (ltb w (n + 9) || ltb 512 w) _ _ e).0).0
-in_range (key k l c) n w s m e = ltb-false _ _ (neither (ltb w (n + 9)) (ltb 512 w) (absent (ltb w (n + 9) || ltb 512 w) _ _ e).0).0
-in_range (paste bytes) n w s m e = ltb-false _ _ (neither (ltb w (n + 9)) (ltb 512 w) (absent (ltb w (n + 9) || ltb 512 w) _ _ e).0).0
-in_range (resize v) n w s m e = ltb-false _ _ (neither (ltb v (n + 9)) (ltb 512 v) (absent (ltb v (n + 9) || ltb 512 v) _ _ e).0).0
-
-operated_label : (columns : ℕ → Columns) (w : ℕ) (o : Operation) (c : ℕ) (s : Session) → (after_operation columns w o c s).label ≡ s.label
-operated_label columns w operation.Finish c s = refl
-operated_label columns w operation.Cancel c s = refl
-operated_label columns w (operation.Edit e) c s = refl
-operated_label columns w operation.Previous c s = refl
-operated_label columns w operation.Next c s = refl
-operated_label columns w operation.Ignore c s = refl
+pub operated_label : (columns : ℕ → Columns) (w : ℕ) (o : Operation) (s : Session) → (after_operation columns w o s).label ≡ s.label
+operated_label columns w operation.Finish s = refl
+operated_label columns w operation.Cancel s = refl
+operated_label columns w (operation.Edit e) s = refl
+operated_label columns w operation.Previous s = refl
+operated_label columns w operation.Next s = refl
+operated_label columns w operation.Ignore s = refl
 
 label_kept : (columns : ℕ → Columns) (w : ℕ) (x : Request) (s : Session) → (after columns w x s).label ≡ s.label
 label_kept columns w draw s = refl
-label_kept columns w (key m k c) s = operated_label columns w (operation_of m k c) c s
+label_kept columns w (key event) s = operated_label columns w (operation_of event) s
 label_kept columns w (paste bytes) s = refl
 label_kept columns w (resize v) s = refl
 
@@ -100,57 +79,55 @@ module _ (columns : ℕ → Columns) (w : ℕ) where
       subst (λ (d : Draft). WellScrolled columns (room w s) d.line d.offset) (sym (scrolled_in_hand s (held_before s h)))
       (clamp_scrolls_well columns (room w s) (draft_in_hand s).line (draft_in_hand s).offset)
 
-  operated_well : (o : Operation) (c : ℕ) (s : Session) → Held (after_operation columns w o c s) → 5 ≤ room w s → Well columns s w → Well columns (after_operation columns w o c s) w
-  operated_well operation.Finish c s h big well = well
-  operated_well operation.Cancel c s h big well = well
-  operated_well (operation.Edit e) c s h big well = scrolled_well (operated columns (operation.Edit e) c s) h big
-  operated_well operation.Previous c s h big well = scrolled_well (operated columns operation.Previous c s) h big
-  operated_well operation.Next c s h big well = scrolled_well (operated columns operation.Next c s) h big
-  operated_well operation.Ignore c s h big well = well
+  operated_well : (o : Operation) (s : Session) → Held (after_operation columns w o s) → 5 ≤ room w s → Well columns s w → Well columns (after_operation columns w o s) w
+  operated_well operation.Finish s h big well = well
+  operated_well operation.Cancel s h big well = well
+  operated_well (operation.Edit e) s h big well = scrolled_well (operated columns (operation.Edit e) s) h big
+  operated_well operation.Previous s h big well = scrolled_well (operated columns operation.Previous s) h big
+  operated_well operation.Next s h big well = scrolled_well (operated columns operation.Next s) h big
+  operated_well operation.Ignore s h big well = well
 
 -- an accepted call leaves the draft in hand well scrolled
 well_after : (columns : ℕ → Columns) (x : Request) (v : ℕ) (s : Session) → 5 ≤ room (width_after x v) s → Held (after columns (width_after x v) x s)
     → (5 ≤ room v s → Well columns s v) → Well columns (after columns (width_after x v) x s) (width_after x v)
 well_after columns draw v s big h well = well big
-well_after columns (key m k c) v s big h well = operated_well columns v (operation_of m k c) c s h big (well big)
+well_after columns (key event) v s big h well = operated_well columns v (operation_of event) s h big (well big)
 well_after columns (paste bytes) v s big h well = scrolled_well columns v (with_draft (inserting (characters bytes) (draft_in_hand s)) s) h big
 well_after columns (resize w) v s big h well = scrolled_well columns w s h big
 
 no_letter : (b : Bool) → redraw_if b ≡ action.Letter → ⊥
-no_letter true e = let o : ◌≡◌ {A = ℕ} 0 1 = cc in omega arith
-no_letter false e = let o : ◌≡◌ {A = ℕ} 0 1 = cc in omega arith
+no_letter true e = cc
+no_letter false e = cc
 
 letter_if : (b : Bool) → cond b action.Letter action.Redraw ≡ action.Letter → b ≡ true
 letter_if true e = refl
-letter_if false e = absurd (let o : ◌≡◌ {A = ℕ} 0 1 = cc in omega arith)
+letter_if false e = absurd cc
 
-module _ (columns : ℕ → Columns) (w c : ℕ) (s : Session) where
+module _ (columns : ℕ → Columns) (w : ℕ) (s : Session) where
   -- only a character that was typed is a letter
   motion_is_no_letter : (m : Motion) → answer_to_motion columns m (draft_in_hand s) ≡ action.Letter → ⊥
   motion_is_no_letter motion.Left e = no_letter _ e
   motion_is_no_letter motion.Right e = no_letter _ e
   motion_is_no_letter motion.PrevWord e = no_letter _ e
   motion_is_no_letter motion.NextWord e = no_letter _ e
-  motion_is_no_letter motion.Start e = let z : ◌≡◌ {A = ℕ} 0 1 = cc in omega arith
-  motion_is_no_letter motion.End e = let z : ◌≡◌ {A = ℕ} 0 1 = cc in omega arith
+  motion_is_no_letter motion.Start e = cc
+  motion_is_no_letter motion.End e = cc
 
-  abbrev pub GoesAlone : Type 0
-  GoesAlone = goes_out_alone columns (room w s) c (draft_in_hand s) ≡ true
+  abbrev pub GoesAlone : ℕ → Type 0
+  GoesAlone c = goes_out_alone columns (room w s) c (draft_in_hand s) ≡ true
 
-  letter_by : (x : Edit) → answer_to_edit columns (room w s) x c (draft_in_hand s) ≡ action.Letter → (x ≡ Insert) × GoesAlone
-  letter_by Insert e = (refl, letter_if _ e)
-  letter_by (Remove r) e = absurd (no_letter _ e)
-  letter_by (Move m) e = absurd (motion_is_no_letter m e)
-  letter_by Transpose e = absurd (no_letter _ e)
-
-  pub letter_typed : (o : Operation) → action_of columns w o c s ≡ action.Letter → (o ≡ operation.Edit Insert) × GoesAlone
-  letter_typed operation.Finish e = absurd (let z : ◌≡◌ {A = ℕ} 0 1 = cc in omega arith)
-  letter_typed operation.Cancel e = absurd (let z : ◌≡◌ {A = ℕ} 0 1 = cc in omega arith)
-  letter_typed (operation.Edit x) e = let t = letter_by x e in (ap operation.Edit t.0, t.1)
+  pub letter_typed : (o : Operation) → action_of columns w o s ≡ action.Letter → (c : ℕ) × (o ≡ typing c) × GoesAlone c
+  letter_typed (operation.Edit (Insert c)) e = (c, refl, letter_if _ e)
+  letter_typed (operation.Edit (Remove r)) e = absurd (no_letter _ e)
+  letter_typed (operation.Edit (Move m)) e = absurd (motion_is_no_letter m e)
+  letter_typed (operation.Edit Transpose) e = absurd (no_letter _ e)
+  letter_typed operation.Finish e = absurd cc
+  letter_typed operation.Cancel e = absurd cc
   letter_typed operation.Previous e = absurd (no_letter _ e)
   letter_typed operation.Next e = absurd (no_letter _ e)
-  letter_typed operation.Ignore e = absurd (let z : ◌≡◌ {A = ℕ} 0 1 = cc in omega arith)
+  letter_typed operation.Ignore e = absurd cc
 
+module _ (columns : ℕ → Columns) (w c : ℕ) (s : Session) where
   abbrev l : Line
   l = (draft_in_hand s).line
 
@@ -160,22 +137,22 @@ module _ (columns : ℕ → Columns) (w c : ℕ) (s : Session) where
     at_end : l.place ≡ length l.text
     free : shown_columns columns (with_inserted (c ∷ []) l) (draft_in_hand s).offset < room w s - margin
 
-  alone : GoesAlone → Alone
+  alone : GoesAlone columns w s c → Alone
   alone e =
       let p = both _ _ e in
       let q = both _ _ p.0 in
       record { unlabelled = flipped _ q.0; at_end = eqb-true _ _ q.1; free = ltb-true _ _ p.1 }
 
   -- it leaves the offset as it was
-  letter_in_hand : Held s → Well columns s w → Alone → draft_in_hand (after_operation columns w (operation.Edit Insert) c s) ≡ draft (with_inserted (c ∷ []) l) (draft_in_hand s).offset
+  letter_in_hand : Held s → Well columns s w → Alone → draft_in_hand (after_operation columns w (typing c) s) ≡ draft (with_inserted (c ∷ []) l) (draft_in_hand s).offset
   letter_in_hand h well a =
-      let u = operated columns (operation.Edit Insert) c s in
+      let u = operated columns (typing c) s in
       let d = draft (with_inserted (c ∷ []) l) (draft_in_hand s).offset in
       let n = length-append [] (c ∷ []) in
       let low : min (draft_in_hand s).offset (l.place + 1) ≡ (draft_in_hand s).offset = omega (arith, well.offset_up_to_place) in
-      let same : editing columns Insert c (draft_in_hand s) ≡ d = ap (draft (with_inserted (c ∷ []) l)) low in
-      let hu : Held u = omega (arith, length-set s.drafts s.hand (editing columns Insert c (draft_in_hand s))) in
-      let e : draft_in_hand u ≡ d = get_or-set_same s.drafts s.hand (editing columns Insert c (draft_in_hand s)) empty_draft h ∙ same in
+      let same : editing columns (Insert c) (draft_in_hand s) ≡ d = ap (draft (with_inserted (c ∷ []) l)) low in
+      let hu : Held u = omega (arith, length-set s.drafts s.hand (editing columns (Insert c) (draft_in_hand s))) in
+      let e : draft_in_hand u ≡ d = get_or-set_same s.drafts s.hand (editing columns (Insert c) (draft_in_hand s)) empty_draft h ∙ same in
       scrolled_in_hand columns w u hu
       ∙ ap (λ (x : Draft). draft x.line (clamped columns (room w s) x.line x.offset)) e
       ∙ ap (draft d.line) (clamp_keeps_well_scrolled columns (room w s) d.line d.offset (inserted_well columns (room w s) c l d.offset a.at_end well (omega (arith, a.free))))
@@ -189,35 +166,35 @@ module _ (columns : ℕ → Columns) (ascii : (c : ℕ) → 0x20 ≤ c → c ≤
   redrawn s r p big e = drawn_same columns ascii w s.label (draft_in_hand s) r (blank_row w) p (omega arith) e (length-replicate w blank_cell)
 
   module _ (s : Session) (printed : printable s.label ≡ true) (big : 5 ≤ room w s) (held : Held s) (well : Well columns s w) (r : Row) (e : width_of r ≡ w) (before : Drawn s r) where
-    letter_drawn : (c : ℕ) → Alone columns w c s → Drawn (after_operation columns w (operation.Edit Insert) c s) (with_character (columns c) c r)
+    letter_drawn : (c : ℕ) → Alone columns w c s → Drawn (after_operation columns w (typing c) s) (with_character (columns c) c r)
     letter_drawn c a =
         ap (with_character (columns c) c) before
         ∙ typed_row columns ascii w s.label printed c (draft_in_hand s).line (draft_in_hand s).offset a.unlabelled a.at_end well.offset_up_to_place (omega (arith, a.free))
         ∙ ap (λ (d : Draft). apply_all columns (drawing columns s.label d w) (blank_row w)) (sym (letter_in_hand columns w c s held well a))
 
-    silent_drawn : (o : Operation) (c : ℕ) → silent (action_of columns w o c s) ≡ true → Drawn (after_operation columns w o c s) r
-    silent_drawn o c q = before ∙ ap (λ (t : Session). apply_all columns (drawn columns w t) (blank_row w)) (sym (unmoved columns w c s well o q))
+    silent_drawn : (o : Operation) → silent (action_of columns w o s) ≡ true → Drawn (after_operation columns w o s) r
+    silent_drawn o q = before ∙ ap (λ (t : Session). apply_all columns (drawn columns w t) (blank_row w)) (sym (unmoved columns w s well o q))
 
-    action_drawn : (o : Operation) (c : ℕ) (a : DisplayAction) → action_of columns w o c s ≡ a → printable (after_operation columns w o c s).label ≡ true → 5 ≤ room w (after_operation columns w o c s)
-        → Drawn (after_operation columns w o c s) (apply_all columns (calls_by a c (drawn columns w (after_operation columns w o c s))) r)
-    action_drawn o c action.Nothing q p b = silent_drawn o c (ap silent q)
-    action_drawn o c action.Finish q p b = silent_drawn o c (ap silent q)
-    action_drawn o c action.Cancel q p b = silent_drawn o c (ap silent q)
-    action_drawn o c action.Redraw q p b = redrawn (after_operation columns w o c s) r p b e
-    action_drawn o c action.Letter q p b =
-        let t = letter_typed columns w c s o q in
-        subst (λ (x : Operation). Drawn (after_operation columns w x c s) (with_character (columns c) c r)) (sym t.0) (letter_drawn c (alone columns w c s t.1))
+    action_drawn : (o : Operation) (a : DisplayAction) → action_of columns w o s ≡ a → printable (after_operation columns w o s).label ≡ true → 5 ≤ room w (after_operation columns w o s)
+        → Drawn (after_operation columns w o s) (apply_all columns (calls_by a o (drawn columns w (after_operation columns w o s))) r)
+    action_drawn o action.Nothing q p b = silent_drawn o (ap silent q)
+    action_drawn o action.Finish q p b = silent_drawn o (ap silent q)
+    action_drawn o action.Cancel q p b = silent_drawn o (ap silent q)
+    action_drawn o action.Redraw q p b = redrawn (after_operation columns w o s) r p b e
+    action_drawn o action.Letter q p b =
+        let t = letter_typed columns w s o q in
+        subst (λ (x : Operation). Drawn (after_operation columns w x s) (apply_all columns (calls_by action.Letter x (drawn columns w (after_operation columns w x s))) r)) (sym t.1) (letter_drawn t.0 (alone columns w t.0 s t.2))
 
-seen_refused : (b : Bool) (x : Request) (e : Refusal) → seen b x (Refused e) ≡ b
+seen_refused : (b : Bool) (x : Request) (e : Refusal) → seen b x (Err e) ≡ b
 seen_refused true x e = refl
 seen_refused false draw e = refl
-seen_refused false (key m k c) e = refl
+seen_refused false (key event) e = refl
 seen_refused false (paste bytes) e = refl
 seen_refused false (resize w) e = refl
 
-seen_before : (b : Bool) (m : _) (k : _) (c : ℕ) (r : Reply) → seen b (key m k c) r ≡ true → b ≡ true
-seen_before true m k c r e = refl
-seen_before false m k c r e = e
+seen_before : (b : Bool) (event : _) (r : Reply) → seen b (key event) r ≡ true → b ≡ true
+seen_before true event r e = refl
+seen_before false event r e = e
 
 module _ (columns : ℕ → Columns) (ascii : (c : ℕ) → 0x20 ≤ c → c ≤ 0x7E → columns c ≡ One) where
   -- an accepted call leaves the drawing of what it leaves of the prompt, unless nothing was drawn before
@@ -227,8 +204,8 @@ module _ (columns : ℕ → Columns) (ascii : (c : ℕ) → 0x20 ≤ c → c ≤
       → (5 ≤ room (width_of r) s → Well columns s (width_of r)) → (b ≡ true → ShowsThePrompt columns s r) → seen b x a ≡ true
       → Drawn columns ascii w t (apply_all columns (glass_calls columns w x s) r)
   row_drawn draw s r b a p p' big big' h well before e = redrawn columns ascii (width_of r) s r p big refl
-  row_drawn (key m k c) s r b a p p' big big' h well before e =
-      action_drawn columns ascii (width_of r) s p big h (well big) r refl (before (seen_before b m k c a e)) (operation_of m k c) c _ refl p' big'
+  row_drawn (key event) s r b a p p' big big' h well before e =
+      action_drawn columns ascii (width_of r) s p big h (well big) r refl (before (seen_before b event a e)) (operation_of event) _ refl p' big'
   row_drawn (paste bytes) s r b a p p' big big' h well before e = redrawn columns ascii (width_of r) (after columns (width_of r) (paste bytes) s) r p' big' refl
   row_drawn (resize w) s r b a p p' big big' h well before e = refl
 
@@ -248,8 +225,8 @@ module _ {G : Type 0} (columns : ℕ → Columns) (ascii : (c : ℕ) → 0x20 �
       let wide : width_of (row h) ≡ w = ap width_of a.row_after ∙ width_is columns w x s (row g) in
       let label : t.label ≡ s.label = label_kept columns w x s in
       let printed : printable s.label ≡ true = p.titled.2 in
-      let n = in_range x p.label_len (width_of (row g)) (spare g) _ e in
-      let big : 5 ≤ room w s = omega (arith, n, label_fits p) in
+      let n = ready (length s.label) w (spare g) (own_reasons x (length (draft_in_hand s).line.text)) e in
+      let big : 5 ≤ room w s = omega (arith, n.wide_enough) in
       let big' : 5 ≤ room w t = subst (λ (z : List ℕ). 5 ≤ w - text_start z) (sym label) big in
       let held : Held t = subst Held a.prompt_after (prompt_held q) in
       let well : Well columns t w = well_after columns x (width_of (row g)) s big held good.well in
@@ -264,7 +241,7 @@ module _ {G : Type 0} (columns : ℕ → Columns) (ascii : (c : ℕ) → 0x20 �
         );
       }
 
-  kept_refused : (b : Bool) (x : Request) (p q : Prompt) (g h : G) (r : Reply) → Good b p g → (e : Refusal) → r ≡ Refused e → q ≡ p → h ≡ g → Good (seen b x r) q h
+  kept_refused : (b : Bool) (x : Request) (p q : Prompt) (g h : G) (r : Reply) → Good b p g → (e : Refusal) → r ≡ Err e → q ≡ p → h ≡ g → Good (seen b x r) q h
   kept_refused b x p q g h r good e t u v =
       subst (λ (z : G). Good (seen b x r) q z) (sym v)
       (subst (λ (z : Prompt). Good (seen b x r) z g) (sym u)
@@ -284,7 +261,7 @@ module _ {G : Type 0} (columns : ℕ → Columns) (ascii : (c : ℕ) → 0x20 �
   sight_now : (p : Prompt) (g : G) → Good true p g → CursorInSight columns (session p).label (draft_in_hand (session p)) (row g)
   sight_now p g good =
       let d = good.is_drawn refl in
-      sight columns ascii (width_of (row g)) (session p).label p.titled.2 (draft_in_hand (session p)) (place_inside p) (omega (arith, d.0)) (good.well d.0) (row g) refl d.1
+      sight columns ascii (width_of (row g)) (session p).label p.titled.2 (draft_in_hand (session p)) (sound_in_hand p).place_up_to_end (omega (arith, d.0)) (good.well d.0) (row g) refl d.1
 
   width_now : (x : Request) (p q : Prompt) (g h : G) (r : Reply) → OneCall columns row spare x p g r q h → refused_now columns row spare x p g ≡ None → width_of (row h) ≡ drawn_at columns row spare x g
   width_now x p q g h r call e = ap width_of (call.accepted e).row_after ∙ width_is columns (drawn_at columns row spare x g) x (session p) (row g)
@@ -300,7 +277,7 @@ module _ {G : Type 0} (columns : ℕ → Columns) (ascii : (c : ℕ) → 0x20 �
   good_at_first p g label texts e = record {
     well = λ big. subst (λ (d : Draft). WellScrolled columns (room (width_of (row g)) (session p)) d.line d.offset) (sym (ap draft_in_hand e ∙ empty_in_hand label texts))
         (record { offset_up_to_place = omega arith; margin_on_the_right = omega arith; no_further_than_needed = inl refl });
-    is_drawn = λ f. absurd (let z : ◌≡◌ {A = ℕ} 0 1 = cc in omega arith);
+    is_drawn = λ f. absurd cc;
   }
 
   opened_lines : (texts : List (List ℕ)) → map (λ (d : Draft). d.line) (map (λ (t : List ℕ). draft (line t (length t)) 0) texts ++ (empty_draft ∷ [])) ≡ map (λ (t : List ℕ). line t (length t)) texts ++ (empty_line ∷ [])
@@ -310,7 +287,12 @@ module _ {G : Type 0} (columns : ℕ → Columns) (ascii : (c : ℕ) → 0x20 �
   ledger_at_first : (p : Prompt) (label : List ℕ) (texts : List (List ℕ)) → session p ≡ newly_opened label texts → ledger (session p) ≡ opened texts
   ledger_at_first p label texts e = ap ledger e ∙ ap (λ (ls : List Line). record { lines = ls; hand = length texts }) (opened_lines texts)
 
-  pub promise : {p q : Prompt} {g h : G} {xs : List Request} {rs : List Reply} → Run columns row spare p g xs rs q h → (label : List ℕ) (texts : List (List ℕ)) → session p ≡ newly_opened label texts
-      → RowShowsTheDraft columns row spare texts xs rs p g q h
-  promise {p = p} {g = g} run label texts e =
-      row_shows_the_draft columns row spare Good kept drawn_now sight_now width_now texts run (good_at_first p g label texts e) (ledger_at_first p label texts e)
+  pub promise : {p q : Prompt} {g h : G} {xs : List Request} {rs : List Reply} → Run columns row spare p g xs rs q h → (label history : List ℕ) → session p ≡ opened_with label history
+      → SessionShowsTheDraft columns row spare label history xs rs g q h
+  promise {p = p} {g = g} run label history e =
+      let texts = remembered_texts history in
+      record {
+        opened = p;
+        newly_opened = e;
+        row_shows_the_draft = row_shows_the_draft columns row spare Good kept drawn_now sight_now width_now texts run (good_at_first p g label texts e) (ledger_at_first p label texts e);
+      }

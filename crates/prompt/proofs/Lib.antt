@@ -1,8 +1,6 @@
 pub mod Agrees
 pub mod CallTied
 pub mod Kept
-pub mod Pasted
-pub mod Pressed
 pub mod Ready
 pub mod Runs
 pub mod Table

@@ -1,126 +1,96 @@
 -- Where no call is refused, a drawing can be paid for.
-use Rattle.std.proofs.Common.{◌≡◌, ℕ, zero, suc, ◌+◌, ◌-◌, ◌≤◌, min, true, cond, ◌||◌, ltb, List, [], ◌∷◌, map, length, get_or, take, IfErr, Some, None, Ok, Err, Result, sym, refl, ap, ◌∙◌, subst, arith, length-take, ltb-false}
-use mathlib.Core.HLevel.{is_prop→PathP}
-use mathlib.Core.Bool.{Bool-set}
-use native.Mathlib.Bridge.{le_prop}
-use native.Mathlib.Nat.{ℕ_set}
-use Rattle.drawing.specs.Ascii.{printable}
-use lib.Utf8.{scalars}
-use Rattle.font.specs.declared.Columns.{Columns}
+use Rattle.std.proofs.Common.{Bool, false, cond, Option, ◌≡◌, ℕ, zero, suc, ◌+◌, ◌-◌, ◌≤◌, min, true, ◌||◌, ltb, List, [], ◌∷◌, ◌++◌, length, get_or, Some, None, Err, sym, refl, ap, ◌∙◌, subst, arith, ltb-false}
+use Rattle.std.specs.List.{AllByRecursion}
+use Rattle.std.proofs.lemmas.Bool.{le-ltb, or_parts as neither}
+use lib.Utf8.{scalar}
 use Rattle.text.specs.declared.refusal.Refusal.{Refusal}
 use Rattle.text.specs.declared.refusal.Refusal.TheVariants.{OutsideGlass, LowSpare}
+use Rattle.font.specs.declared.Columns.{Columns}
 use Rattle.glass.specs.Row.{Row, width_of}
-use Rattle.glass.specs.Calls.{Allowed}
+use Rattle.glass.specs.Calls.{GlassCall, Allowed}
 use Rattle.glass.specs.Ties.{Tied}
-use Rattle.draft.specs.declared.state.PromptState.{PromptState}
-use Rattle.draft.specs.Line.{capacity}
-use Rattle.draft.specs.Draft.{Draft, draft_of, shown_text}
-use Rattle.draft.proofs.Drafts.{drafts_are_sound}
+use Rattle.draft.specs.declared.action.DisplayAction.{DisplayAction}
+use Rattle.draft.specs.declared.action.DisplayAction.TheVariants as action
+use Rattle.draft.specs.Draft.{Draft, shown_text, Sound}
 use Rattle.draft.specs.Scroll.{shown_columns}
-use Rattle.drawing.specs.Drawing.{longest_label, framed, cursor_column, drawing}
-use Rattle.prompt.specs.declared.state.Prompt.{Prompt}
-use Rattle.prompt.specs.declared.session.Reply.{Reply}
-use Rattle.prompt.specs.declared.session.Reply.TheVariants.{Refused}
-use Rattle.prompt.specs.Requests.{Request, draw}
-use Rattle.prompt.specs.Refused.{refusal}
-use Rattle.history.specs.Session as history
-use Rattle.prompt.specs.Session.{Session, room, session, empty_draft, draft_in_hand, drawn, refused_now}
-use Rattle.prompt.proofs.CallTied.{AcceptingTied, OneCallTied}
+use Rattle.history.proofs.InHand.{sessions_are_sound}
+use Rattle.drawing.specs.Drawing.{framed, cursor_column, drawing}
 use Rattle.drawing.proofs.Allowed.{drawing_is_allowed}
-use Rattle.drawing.proofs.Tests.{neither, absent}
+use Rattle.prompt.specs.declared.keys.Edit.TheVariants.{Insert}
+use Rattle.prompt.specs.declared.keys.Operation.{Operation}
+use Rattle.prompt.specs.declared.keys.Operation.TheVariants as operation
+use Rattle.prompt.specs.declared.state.Prompt.{Prompt}
+use Rattle.prompt.specs.Keys.{typing}
+use Rattle.prompt.specs.Requests.{Request, Reply}
+use Rattle.prompt.specs.Refused.{Reason, first_of, glass_reasons}
+use Rattle.prompt.specs.Session.{session, empty_draft, draft_in_hand, drawn, calls_by, refused_now}
+use Rattle.prompt.proofs.CallTied.{AcceptingTied, OneCallTied}
+
+-- no refusal: the first reason is not there, and no later one is
+pub absent : (b : Bool) (e : Refusal) (o : Option Refusal) → cond b (Some e) o ≡ None → (b ≡ false) × (o ≡ None)
+absent true e o h = cc
+absent false e o h = (refl, h)
 
 pub record Ready (n w s : ℕ) : Type 0 where
   pub wide_enough : n + 9 ≤ w
   pub not_too_wide : w ≤ 512
   pub can_pay : 1300 ≤ s
 
-pub ready : (n w s m : ℕ) → refusal draw n w s m ≡ None → Ready n w s
-ready n w s m e =
-    let a = absent (ltb w (n + 9) || ltb 512 w) OutsideGlass (cond (ltb s 1300) (Some LowSpare) None) e in
+-- a call whose glass is not refused, whatever is asked besides
+pub ready : (n w s : ℕ) (rest : List Reason) → first_of (glass_reasons n w s ++ rest) ≡ None → Ready n w s
+ready n w s rest e =
+    let a = absent (ltb w (n + 9) || ltb 512 w) OutsideGlass _ e in
     let b = neither (ltb w (n + 9)) (ltb 512 w) a.0 in
-    let d = absent (ltb s 1300) LowSpare None a.1 in
+    let d = absent (ltb s 1300) LowSpare _ a.1 in
     record { wide_enough = ltb-false _ _ b.0; not_too_wide = ltb-false _ _ b.1; can_pay = ltb-false _ _ d.0 }
 
-few_each : (xs : List PromptState) (i : ℕ) → length (get_or (map draft_of xs) i empty_draft).line.text ≤ capacity
-few_each [] i = omega arith
-few_each (x ∷ xs) zero = (drafts_are_sound x).at_most_capacity
-few_each (x ∷ xs) (suc i) = few_each xs i
+-- where its test was passed
+pub ready_now : (n w s : ℕ) → None ≡ first_of (glass_reasons n w s) → Ready n w s
+ready_now n w s e = ready n w s [] (sym e)
 
-scalars_each : (xs : List PromptState) (i : ℕ) → scalars (get_or (map draft_of xs) i empty_draft).line.text ≡ true
-scalars_each [] i = refl
-scalars_each (x ∷ xs) zero = (drafts_are_sound x).scalar_values
-scalars_each (x ∷ xs) (suc i) = scalars_each xs i
+sound_at : (ds : List Draft) → AllByRecursion Sound ds → (i : ℕ) → Sound (get_or ds i empty_draft)
+sound_at [] h i = record { offset_up_to_place = omega arith; place_up_to_end = omega arith; at_most_capacity = omega arith; scalar_values = refl }
+sound_at (d ∷ ds) h zero = h.0
+sound_at (d ∷ ds) h (suc i) = sound_at ds h.1 i
 
-pub few_in_hand : (p : Prompt) → length (draft_in_hand (session p)).line.text ≤ capacity
-few_in_hand p = few_each (take p.history.count p.history.entries) p.history.active_index
+pub sound_in_hand : (p : Prompt) → Sound (draft_in_hand (session p))
+sound_in_hand p = sound_at (session p).drafts (sessions_are_sound p.history).drafts_are_sound (session p).hand
 
-pub can_draw : (columns : ℕ → Columns) (p : Prompt) (r : Row) (w s : ℕ) → w ≡ width_of r → p.label_len + 9 ≤ w → w ≤ 512 → 1298 ≤ s → Allowed columns (drawn columns w (session p)) r s
+pub can_draw : (columns : ℕ → Columns) (p : Prompt) (r : Row) (w s : ℕ) → w ≡ width_of r → length (session p).label + 9 ≤ w → w ≤ 512 → 1298 ≤ s → Allowed columns (drawn columns w (session p)) r s
 can_draw columns p r w s q wide narrow pay =
-    let ds = take p.history.count p.history.entries in
+    let sound = sound_in_hand p in
     subst (λ (v : ℕ). Allowed columns (drawn columns v (session p)) r s) (sym q)
-    (drawing_is_allowed columns (session p).label (draft_in_hand (session p)) r s p.titled.2 (omega (arith, length-take p.label_len p.label, p.titled.1))
-    (omega arith) (omega arith) (few_in_hand p) (scalars_each ds p.history.active_index) pay)
+    (drawing_is_allowed columns (session p).label (draft_in_hand (session p)) r s p.titled.2 p.titled.1 (omega arith) (omega arith) sound.at_most_capacity sound.scalar_values pay)
 
-pub may_draw : (columns : ℕ → Columns) (p : Prompt) (r : Row) (w s m : ℕ) → w ≡ width_of r → refusal draw p.label_len w s m ≡ None → Allowed columns (drawn columns w (session p)) r s
-may_draw columns p r w s m q e =
-    let t = ready p.label_len w s m e in
-    can_draw columns p r w s q t.wide_enough t.not_too_wide (omega (arith, t.can_pay))
+-- what a key left can be shown: a letter where it is a character, and a drawing
+pub can_show : (columns : ℕ → Columns) (a : DisplayAction) (o : Operation) (ks : List GlassCall) (r : Row) (s : ℕ) → 2 ≤ s → ((c : ℕ) → o ≡ typing c → scalar c ≡ true)
+    → Allowed columns ks r s → Allowed columns (calls_by a o ks) r s
+can_show columns action.Letter (operation.Edit (Insert c)) ks r s pay good can =
+    let low = le-ltb s 2 pay in (rw (low, good c refl) refl, λ left h. tt)
+can_show columns action.Redraw o ks r s pay good can = can
+can_show columns _ o ks r s pay good can = tt
 
 -- one call, refused or accepted
 module _ {G : Type 0} (columns : ℕ → Columns) (row : G → Row) (spare : G → ℕ) (tied : G → Tied) where
-  pub refuses : (x : Request) (p : Prompt) (g : G) (e : Refusal) → refused_now columns row spare x p g ≡ Some e → OneCallTied columns row spare tied x p g (Refused e) p g
+  pub refuses : (x : Request) (p : Prompt) (g : G) (e : Refusal) → refused_now columns row spare x p g ≡ Some e → OneCallTied columns row spare tied x p g (Err e) p g
   refuses x p g e h = record {
-    refused = λ d k. let same : e ≡ d = cc in record { told_why = ap Refused same; same_prompt = refl; same_glass = refl };
-    accepted = λ k. absurd (let z : ◌≡◌ {A = ℕ} 0 1 = cc in omega arith);
+    refused = λ d k. let same : e ≡ d = cc in record { told_why = ap Err same; same_prompt = refl; same_glass = refl };
+    accepted = λ k. absurd cc;
   }
 
   pub accepts : (x : Request) (p q : Prompt) (g h : G) (r : Reply) → refused_now columns row spare x p g ≡ None → AcceptingTied columns row spare tied x p g r q h → OneCallTied columns row spare tied x p g r q h
   accepts x p q g h r e a = record {
-    refused = λ d k. absurd (let z : ◌≡◌ {A = ℕ} 0 1 = cc in omega arith);
+    refused = λ d k. absurd cc;
     accepted = λ k. a;
   }
 
--- the label as it is cut from its array
-pub label_cut : (p : Prompt) → take (p.label_len - 0) p.label ≡ (session p).label
-label_cut p = ap (λ (n : ℕ). take n p.label) (let same : p.label_len - 0 ≡ p.label_len = omega arith in same)
-
-pub label_long : (p : Prompt) → length (session p).label ≡ p.label_len
-label_long p = length-take p.label_len p.label ∙ omega (arith, p.titled.1, p.titled.3)
-
 -- the draft in hand, as it was asked for
-pub prompt_framed : (columns : ℕ → Columns) (p : Prompt) (w : ℕ) (d : Draft) (chars : List ℕ) (n k : ℕ)
-    → d ≡ draft_in_hand (session p) → chars ≡ shown_text d → n ≡ shown_columns columns d.line d.offset → k ≡ min (p.label_len + 4 + n) (w - 1)
-    → framed columns (take (p.label_len - 0) p.label) chars k w ≡ drawn columns w (session p)
-prompt_framed columns p w d chars n k same e f h =
-    let label = (session p).label in
-    let at : k ≡ min (cursor_column columns label d) (w - 1) = omega (arith, label_long p) in
-    ap (λ (cs : List ℕ). framed columns cs chars k w) (label_cut p)
-    ∙ ap (λ (cs : List ℕ). framed columns label cs k w) e
-    ∙ ap (λ (j : ℕ). framed columns label (shown_text d) j w) at
-    ∙ ap (λ (y : Draft). drawing columns label y w) same
-
--- the columns for the text, as they are worked out from the label's length
-pub room_is : (p : Prompt) (w : ℕ) → w - p.label_len - 4 ≡ room w (session p)
-room_is p w = omega (arith, label_long p)
-
--- prompts with the same label and the same drafts are the same
-pub same_prompt : (p q : Prompt) → p.label ≡ q.label → p.label_len ≡ q.label_len → p.history ≡ q.history → p ≡ q
-same_prompt p q label long history = λ j. record {
-  label = label j;
-  label_len = long j;
-  history = history j;
-  titled = (
-    is_prop→PathP (λ i. 1 ≤ long i) (λ i. le_prop) p.titled.0 q.titled.0 j,
-    is_prop→PathP (λ i. long i ≤ longest_label) (λ i. le_prop) p.titled.1 q.titled.1 j,
-    is_prop→PathP (λ i. printable (take (long i) (label i)) ≡ true) (λ i. Bool-set _ _) p.titled.2 q.titled.2 j,
-    is_prop→PathP (λ i. length (label i) ≡ longest_label) (λ i. ℕ_set _ _) p.titled.3 q.titled.3 j,
-  );
-}
-
--- a session of a label and a history
-abbrev pub seen_by : List ℕ → history.Session → Session
-seen_by label h = record { label = label; drafts = h.drafts; hand = h.hand }
-
-pub refused_so : {X Y : Type 0} (r : Result X Y) (P : Type 0) → P → IfErr r (λ _. P)
-refused_so (Ok x) P p = tt
-refused_so (Err y) P p = p
+pub prompt_framed : (columns : ℕ → Columns) (p : Prompt) (w : ℕ) (d : Draft) (label chars : List ℕ) (n k : ℕ)
+    → label ≡ (session p).label → d ≡ draft_in_hand (session p) → chars ≡ shown_text d → n ≡ shown_columns columns d.line d.offset → k ≡ min (length (session p).label + 4 + n) (w - 1)
+    → framed columns label chars k w ≡ drawn columns w (session p)
+prompt_framed columns p w d label chars n k titled same e f h =
+    let at : k ≡ min (cursor_column columns (session p).label d) (w - 1) = omega arith in
+    ap (λ (cs : List ℕ). framed columns cs chars k w) titled
+    ∙ ap (λ (cs : List ℕ). framed columns (session p).label cs k w) e
+    ∙ ap (λ (j : ℕ). framed columns (session p).label (shown_text d) j w) at
+    ∙ ap (λ (y : Draft). drawing columns (session p).label y w) same

@@ -17,7 +17,7 @@ use Rattle.prompt.specs.declared.keys.Motion.TheVariants as motion
 use Rattle.draft.specs.Edits.{with_line, clamping, redraw_if, answer_by, goes_out_alone}
 use Rattle.prompt.specs.Edits.{edited, removes_to, goes_to, answer_to_motion, answer_to_edit}
 use Rattle.prompt.specs.Session.{Session, empty_draft, draft_in_hand, room, with_hand, with_draft, scrolled, operated, after_operation, action_of}
-use Rattle.drawing.proofs.Tests.{flipped_back}
+use Rattle.std.proofs.lemmas.Bool.{not-false as flipped_back}
 
 -- an answer after which nothing is drawn
 abbrev pub silent : DisplayAction → Bool
@@ -63,7 +63,7 @@ scrolled_same columns w s h =
     put_back (clamping columns (room w s) (draft_in_hand s)) s
     (ap (draft (draft_in_hand s).line) (clamp_keeps_well_scrolled columns (room w s) (draft_in_hand s).line (draft_in_hand s).offset h))
 
-module _ (columns : ℕ → Columns) (w c : ℕ) (s : Session) (well : Well columns s w) where
+module _ (columns : ℕ → Columns) (w : ℕ) (s : Session) (well : Well columns s w) where
   idle : (t : Session) → t ≡ s → scrolled columns w t ≡ s
   idle t e = ap (scrolled columns w) e ∙ scrolled_same columns w s well
 
@@ -77,37 +77,37 @@ module _ (columns : ℕ → Columns) (w c : ℕ) (s : Session) (well : Well colu
   moves_none reach e = moved_none (draft_in_hand s).line _ (no_reach reach (draft_in_hand s) e)
 
   swaps_none : (b : Bool) (x : Line) → silent (redraw_if b) ≡ true → cond b x (draft_in_hand s).line ≡ (draft_in_hand s).line
-  swaps_none true x e = absurd (let o : ◌≡◌ {A = ℕ} 0 1 = cc in omega arith)
+  swaps_none true x e = absurd cc
   swaps_none false x e = refl
 
   stays_last : (b : Bool) (n : ℕ) → silent (redraw_if b) ≡ true → cond b n s.hand ≡ s.hand
-  stays_last true n e = absurd (let o : ◌≡◌ {A = ℕ} 0 1 = cc in omega arith)
+  stays_last true n e = absurd cc
   stays_last false n e = refl
 
   loud : (b : Bool) → silent (cond b action.Letter action.Redraw) ≡ true → ⊥
-  loud true e = let o : ◌≡◌ {A = ℕ} 0 1 = cc in omega arith
-  loud false e = let o : ◌≡◌ {A = ℕ} 0 1 = cc in omega arith
+  loud true e = cc
+  loud false e = cc
 
   unmoved_by : (m : Motion) → silent (answer_to_motion columns m (draft_in_hand s)) ≡ true → moved_to (goes_to columns m (draft_in_hand s).line) (draft_in_hand s).line ≡ (draft_in_hand s).line
   unmoved_by motion.Left e = moves_none (left_of columns) e
   unmoved_by motion.Right e = moves_none (right_of columns) e
   unmoved_by motion.PrevWord e = moves_none prev_word e
   unmoved_by motion.NextWord e = moves_none next_word e
-  unmoved_by motion.Start e = absurd (let o : ◌≡◌ {A = ℕ} 0 1 = cc in omega arith)
-  unmoved_by motion.End e = absurd (let o : ◌≡◌ {A = ℕ} 0 1 = cc in omega arith)
+  unmoved_by motion.Start e = absurd cc
+  unmoved_by motion.End e = absurd cc
 
-  unedited : (x : Edit) → silent (answer_to_edit columns (room w s) x c (draft_in_hand s)) ≡ true → edited columns x c (draft_in_hand s).line ≡ (draft_in_hand s).line
-  unedited Insert e = absurd (loud (goes_out_alone columns (room w s) c (draft_in_hand s)) e)
+  unedited : (x : Edit) → silent (answer_to_edit columns (room w s) x (draft_in_hand s)) ≡ true → edited columns x (draft_in_hand s).line ≡ (draft_in_hand s).line
+  unedited (Insert c) e = absurd (loud (goes_out_alone columns (room w s) c (draft_in_hand s)) e)
   unedited (Remove r) e = removes_none (removes_to r) e
   unedited (Move m) e = unmoved_by m e
   unedited Transpose e = swaps_none (can_swap (draft_in_hand s).line) _ e
 
-  pub unmoved : (o : Operation) → silent (action_of columns w o c s) ≡ true → after_operation columns w o c s ≡ s
+  pub unmoved : (o : Operation) → silent (action_of columns w o s) ≡ true → after_operation columns w o s ≡ s
   unmoved operation.Finish e = refl
   unmoved operation.Cancel e = refl
   unmoved operation.Ignore e = refl
-  unmoved (operation.Edit x) e = idle (operated columns (operation.Edit x) c s) (same_draft _ (unedited x e))
+  unmoved (operation.Edit x) e = idle (operated columns (operation.Edit x) s) (same_draft _ (unedited x e))
   unmoved operation.Previous e =
       let h = ltb-false _ _ (silent_only (ltb 0 s.hand) e) in
-      idle (operated columns operation.Previous c s) (ap (λ (k : ℕ). with_hand k s) (let z : s.hand - 1 ≡ s.hand = omega arith in z))
-  unmoved operation.Next e = idle (operated columns operation.Next c s) (ap (λ (k : ℕ). with_hand k s) (stays_last (ltb (s.hand + 1) (length s.drafts)) _ e))
+      idle (operated columns operation.Previous s) (ap (λ (k : ℕ). with_hand k s) (let z : s.hand - 1 ≡ s.hand = omega arith in z))
+  unmoved operation.Next e = idle (operated columns operation.Next s) (ap (λ (k : ℕ). with_hand k s) (stays_last (ltb (s.hand + 1) (length s.drafts)) _ e))

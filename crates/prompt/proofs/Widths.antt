@@ -10,7 +10,10 @@ use Rattle.glass.proofs.Front.{text_width, cleared_width}
 use Rattle.draft.specs.Draft.{Draft}
 use Rattle.draft.specs.declared.action.DisplayAction.{DisplayAction}
 use Rattle.draft.specs.declared.action.DisplayAction.TheVariants as action
-use Rattle.prompt.specs.Keys.{operation}
+use Rattle.prompt.specs.declared.keys.Edit.TheVariants.{Insert}
+use Rattle.prompt.specs.declared.keys.Operation.{Operation}
+use Rattle.prompt.specs.declared.keys.Operation.TheVariants as operation
+use Rattle.prompt.specs.Keys.{operation as operation_of}
 use Rattle.drawing.specs.Drawing.{sent, ended, joined, spelled, piece, pieces, text_start, drawing}
 use Rattle.prompt.specs.Requests.{Request, draw, key, paste, resize}
 use Rattle.prompt.specs.Refused.{width_after}
@@ -70,19 +73,18 @@ quiet_then (reshape w ∷ ks) k q = absurd q
 quiet_drawing : (columns : ℕ → Columns) (label : List ℕ) (d : Draft) (width : ℕ) → Quiet (drawing columns label d width)
 quiet_drawing columns label d width = quiet_then (pieces columns width (text_start label) [] (drop d.offset d.line.text)) _ (quiet_pieces columns width (drop d.offset d.line.text) (text_start label) [])
 
-quiet_by : (a : DisplayAction) (c : ℕ) (ks : List GlassCall) → Quiet ks → Quiet (calls_by a c ks)
-quiet_by action.Nothing c ks q = tt
-quiet_by action.Letter c ks q = tt
-quiet_by action.Redraw c ks q = q
-quiet_by action.Finish c ks q = tt
-quiet_by action.Cancel c ks q = tt
+quiet_by : (a : DisplayAction) (o : Operation) (ks : List GlassCall) → Quiet ks → Quiet (calls_by a o ks)
+quiet_by action.Letter (operation.Edit (Insert c)) ks q = tt
+quiet_by action.Redraw o ks q = q
+quiet_by _ o ks q = tt
 
 pub width_is : (columns : ℕ → Columns) (width : ℕ) (x : Request) (s : Session) (r : Row) → width_of (apply_all columns (glass_calls columns width x s) r) ≡ width_after x (width_of r)
 width_is columns width draw s r = keeps_width columns (drawn columns width s) r (quiet_drawing columns s.label (draft_in_hand s) width)
-width_is columns width (key m k c) s r =
-    let t = after columns width (key m k c) s in
-    let a = action_of columns width (operation m k c) c s in
-    keeps_width columns (calls_by a c (drawn columns width t)) r (quiet_by a c (drawn columns width t) (quiet_drawing columns t.label (draft_in_hand t) width))
+width_is columns width (key event) s r =
+    let t = after columns width (key event) s in
+    let o = operation_of event in
+    let a = action_of columns width o s in
+    keeps_width columns (calls_by a o (drawn columns width t)) r (quiet_by a o (drawn columns width t) (quiet_drawing columns t.label (draft_in_hand t) width))
 width_is columns width (paste bytes) s r =
     let t = after columns width (paste bytes) s in
     keeps_width columns (drawn columns width t) r (quiet_drawing columns t.label (draft_in_hand t) width)

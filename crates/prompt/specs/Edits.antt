@@ -32,15 +32,15 @@ goes_to columns motion.NextWord l = next_word l
 goes_to columns motion.Start l = line_start l
 goes_to columns motion.End l = line_end l
 
-abbrev pub edited : (ℕ → Columns) → Edit → (character : ℕ) → Line → Line
-edited columns Insert c l = with_inserted (c ∷ []) l
-edited columns (Remove r) c l = removed_to (removes_to r l) l
-edited columns (Move m) c l = moved_to (goes_to columns m l) l
-edited columns Transpose c l = with_swapped l
+abbrev pub edited : (ℕ → Columns) → Edit → Line → Line
+edited columns (Insert c) l = with_inserted (c ∷ []) l
+edited columns (Remove r) l = removed_to (removes_to r l) l
+edited columns (Move m) l = moved_to (goes_to columns m l) l
+edited columns Transpose l = with_swapped l
 
 -- a draft with its line edited
-abbrev pub editing : (ℕ → Columns) → Edit → (character : ℕ) → Draft → Draft
-editing columns e c d = with_line (edited columns e c d.line) d
+abbrev pub editing : (ℕ → Columns) → Edit → Draft → Draft
+editing columns e d = with_line (edited columns e d.line) d
 
 -- to the start and to the end is always drawn anew, and any other motion where there was somewhere to go
 abbrev pub answer_to_motion : (ℕ → Columns) → Motion → Draft → DisplayAction
@@ -51,15 +51,13 @@ answer_to_motion columns motion.NextWord d = answer_by next_word d
 answer_to_motion columns motion.Start d = Redraw
 answer_to_motion columns motion.End d = Redraw
 
-abbrev pub answer_to_edit : (ℕ → Columns) → (room : ℕ) → Edit → (character : ℕ) → Draft → DisplayAction
-answer_to_edit columns room Insert c d = answer_to_character columns room c d
-answer_to_edit columns room (Remove r) c d = answer_by (removes_to r) d
-answer_to_edit columns room (Move m) c d = answer_to_motion columns m d
-answer_to_edit columns room Transpose c d = answer_to_swap d
+abbrev pub answer_to_edit : (ℕ → Columns) → (room : ℕ) → Edit → Draft → DisplayAction
+answer_to_edit columns room (Insert c) d = answer_to_character columns room c d
+answer_to_edit columns room (Remove r) d = answer_by (removes_to r) d
+answer_to_edit columns room (Move m) d = answer_to_motion columns m d
+answer_to_edit columns room Transpose d = answer_to_swap d
 
 -- why an edit may not be made, if so
-abbrev pub edit_refused : Edit → (character : ℕ) → Draft → Option Refusal
-edit_refused Insert c d = insertion_refused (c ∷ []) d
-edit_refused (Remove r) c d = None
-edit_refused (Move m) c d = None
-edit_refused Transpose c d = None
+abbrev pub edit_refused : Edit → Draft → Option Refusal
+edit_refused (Insert c) d = insertion_refused (c ∷ []) d
+edit_refused _ d = None

@@ -4,6 +4,7 @@ use Rattle.prompt.specs.declared.keys.Modifiers.{Modifiers}
 use Rattle.prompt.specs.declared.keys.Modifiers.TheVariants as modifiers
 use Rattle.prompt.specs.declared.keys.KeyCode.{KeyCode}
 use Rattle.prompt.specs.declared.keys.KeyCode.TheVariants as code
+use Rattle.prompt.specs.declared.keys.KeyEvent.{KeyEvent}
 use Rattle.prompt.specs.declared.keys.Removal.{Removal}
 use Rattle.prompt.specs.declared.keys.Removal.TheVariants as removal
 use Rattle.prompt.specs.declared.keys.Motion.{Motion}
@@ -13,8 +14,8 @@ use Rattle.prompt.specs.declared.keys.Operation.{Operation}
 use Rattle.prompt.specs.declared.keys.Operation.TheVariants.{Finish, Cancel, Edit, Previous, Next, Ignore}
 
 -- the operation of a character that is typed
-abbrev pub typing : Operation
-typing = Edit Insert
+abbrev pub typing : (character : ℕ) → Operation
+typing c = Edit (Insert c)
 
 abbrev pub remove_to : Removal → Operation
 remove_to r = Edit (Remove r)
@@ -49,7 +50,7 @@ abbrev pub alt_character : ℕ → Operation
 alt_character = asked_by (bound 0x64 (remove_to removal.NextWord) ∷ bound 0x66 (go_to motion.NextWord) ∷ bound 0x62 (go_to motion.PrevWord) ∷ [])
 
 abbrev plain : KeyCode → Operation
-plain code.Char = Edit Insert
+plain (code.Char c) = typing c
 plain code.Enter = Finish
 plain code.Escape = Cancel
 plain code.Backspace = remove_to removal.PrevChar
@@ -62,36 +63,22 @@ plain code.Home = go_to motion.Start
 plain code.End = go_to motion.End
 plain code.Other = Ignore
 
-abbrev ctrl : KeyCode → ℕ → Operation
-ctrl code.Char c = ctrl_character c
-ctrl code.Enter c = Ignore
-ctrl code.Escape c = Ignore
-ctrl code.Backspace c = Ignore
-ctrl code.Delete c = Ignore
-ctrl code.Left c = go_to motion.PrevWord
-ctrl code.Right c = go_to motion.NextWord
-ctrl code.Up c = Ignore
-ctrl code.Down c = Ignore
-ctrl code.Home c = Ignore
-ctrl code.End c = Ignore
-ctrl code.Other c = Ignore
+abbrev ctrl : KeyCode → Operation
+ctrl (code.Char c) = ctrl_character c
+ctrl code.Left = go_to motion.PrevWord
+ctrl code.Right = go_to motion.NextWord
+ctrl _ = Ignore
 
-abbrev alt : KeyCode → ℕ → Operation
-alt code.Char c = alt_character c
-alt code.Enter c = Ignore
-alt code.Escape c = Ignore
-alt code.Backspace c = remove_to removal.PrevWord
-alt code.Delete c = Ignore
-alt code.Left c = Ignore
-alt code.Right c = Ignore
-alt code.Up c = Ignore
-alt code.Down c = Ignore
-alt code.Home c = Ignore
-alt code.End c = Ignore
-alt code.Other c = Ignore
+abbrev alt : KeyCode → Operation
+alt (code.Char c) = alt_character c
+alt code.Backspace = remove_to removal.PrevWord
+alt _ = Ignore
 
-abbrev pub operation : Modifiers → KeyCode → (character : ℕ) → Operation
-operation modifiers.None k c = plain k
-operation modifiers.Ctrl k c = ctrl k c
-operation modifiers.Alt k c = alt k c
-operation modifiers.Other k c = Ignore
+abbrev held : Modifiers → KeyCode → Operation
+held modifiers.None k = plain k
+held modifiers.Ctrl k = ctrl k
+held modifiers.Alt k = alt k
+held modifiers.Other k = Ignore
+
+abbrev pub operation : KeyEvent → Operation
+operation event = held event.modifiers event.key

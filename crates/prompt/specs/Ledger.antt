@@ -33,18 +33,18 @@ hand_back hand = hand - 1
 abbrev pub hand_on : (count hand : ℕ) → ℕ
 hand_on count hand = cond (nat_lt (hand + 1) count) (hand + 1) hand
 
-abbrev pub after_operation : (ℕ → Columns) → Operation → (character : ℕ) → Ledger → Ledger
-after_operation columns Finish c l = l
-after_operation columns Cancel c l = l
-after_operation columns (Edit e) c l = with_line (edited columns e c (line_in_hand l)) l
-after_operation columns Previous c l = with_hand (hand_back l.hand) l
-after_operation columns Next c l = with_hand (hand_on (length l.lines) l.hand) l
-after_operation columns Ignore c l = l
+abbrev pub after_operation : (ℕ → Columns) → Operation → Ledger → Ledger
+after_operation columns Finish l = l
+after_operation columns Cancel l = l
+after_operation columns (Edit e) l = with_line (edited columns e (line_in_hand l)) l
+after_operation columns Previous l = with_hand (hand_back l.hand) l
+after_operation columns Next l = with_hand (hand_on (length l.lines) l.hand) l
+after_operation columns Ignore l = l
 
 -- an accepted request
 abbrev pub entered : (ℕ → Columns) → Request → Ledger → Ledger
 entered columns draw l = l
-entered columns (key m k c) l = after_operation columns (operation m k c) c l
+entered columns (key event) l = after_operation columns (operation event) l
 entered columns (paste bytes) l = with_line (with_inserted (characters bytes) (line_in_hand l)) l
 entered columns (resize w) l = l
 

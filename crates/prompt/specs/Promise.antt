@@ -1,13 +1,11 @@
 -- What a seller may rely on over any list of calls.
-use Rattle.std.specs.Prelude.{◌≡◌, ℕ, suc, ◌<◌, ◌≤◌, Bool, false, List, [], ◌∷◌, length, get_or, take, Some, None, slice_index_or}
+use Rattle.std.specs.Prelude.{◌≡◌, ℕ, suc, ◌<◌, ◌≤◌, Bool, false, List, [], ◌∷◌, length, get_or, take, Some, None, slice_index_or, Ok, Err}
 use Rattle.font.specs.declared.Columns.{Columns}
 use Rattle.text.specs.declared.refusal.Refusal.{Refusal}
 use Rattle.glass.specs.Row.{Row, width_of}
 use Rattle.prompt.specs.declared.state.Prompt.{Prompt}
-use Rattle.prompt.specs.declared.session.Reply.{Reply}
-use Rattle.prompt.specs.declared.session.Reply.TheVariants.{Done, Refused}
 use Rattle.drawing.specs.Sight.{RowIsDrawing, CursorInSight}
-use Rattle.prompt.specs.Requests.{Request, draw, was_refused}
+use Rattle.prompt.specs.Requests.{Request, draw, was_refused, Reply}
 use Rattle.prompt.specs.Ledger.{opened, fed}
 use Rattle.prompt.specs.Session.{Session, session, draft_in_hand, ledger, answer, refused_now, drawn_at}
 
@@ -19,7 +17,7 @@ ShowsThePrompt columns s r = RowIsDrawing columns s.label (draft_in_hand s) r
 pub record AcceptedDraw (xs : List Request) (rs : List Reply) (i : ℕ) : Type 0 where
   pub is_a_call : i < length xs
   pub is_draw : get_or xs i draw ≡ draw
-  pub is_accepted : was_refused (slice_index_or rs i Done) ≡ false
+  pub is_accepted : was_refused (slice_index_or rs i (Ok None)) ≡ false
 
 -- each call with whether it was refused
 abbrev pub refusals : List Request → List Reply → List (Request × Bool)
@@ -38,10 +36,10 @@ pub record RowShowsTheDraft {G : Type 0} (columns : ℕ → Columns) (row : G �
   -- a call is refused exactly where the table says so of what it finds, and changes nothing then
   pub refused_by_the_table : (i : ℕ) → i < length xs → (e : Refusal)
       → refused_now columns row spare (slice_index_or xs i draw) (prompt_after i) (glass_after i) ≡ Some e
-      → (slice_index_or rs i Done ≡ Refused e) × (prompt_after (suc i) ≡ prompt_after i) × (glass_after (suc i) ≡ glass_after i)
+      → (slice_index_or rs i (Ok None) ≡ Err e) × (prompt_after (suc i) ≡ prompt_after i) × (glass_after (suc i) ≡ glass_after i)
   pub else_answered_by_the_rules : (i : ℕ) → i < length xs
       → refused_now columns row spare (slice_index_or xs i draw) (prompt_after i) (glass_after i) ≡ None
-      → (slice_index_or rs i Done ≡ answer columns (drawn_at columns row spare (slice_index_or xs i draw) (glass_after i)) (slice_index_or xs i draw) (session (prompt_after i)))
+      → (slice_index_or rs i (Ok None) ≡ answer columns (drawn_at columns row spare (slice_index_or xs i draw) (glass_after i)) (slice_index_or xs i draw) (session (prompt_after i)))
       × (width_of (row (glass_after (suc i))) ≡ drawn_at columns row spare (slice_index_or xs i draw) (glass_after i))
   -- from the first accepted draw on
   pub row_is_drawing : (i j : ℕ) → AcceptedDraw xs rs i → i < j → j ≤ length xs

@@ -1,5 +1,5 @@
 -- When a call is refused, and with what: the first reason that is there.
-use Rattle.std.specs.Prelude.{ℕ, ◌+◌, Bool, true, false, cond, not, ◌&&◌, ◌||◌, List, [], ◌∷◌, length, Some, None, Option, nat_lt}
+use Rattle.std.specs.Prelude.{ℕ, ◌+◌, Bool, true, cond, not, ◌||◌, List, [], ◌∷◌, ◌++◌, length, Some, None, Option, nat_lt}
 use Rattle.std.proofs.Math.Utf8.{scalar}
 use Rattle.text.specs.declared.refusal.Refusal.{Refusal}
 use Rattle.text.specs.declared.refusal.Refusal.TheVariants.{OutsideGlass, LowSpare, NotScalar, IllFormed, DraftFull}
@@ -9,8 +9,7 @@ use Rattle.draft.specs.Line.{capacity}
 use Rattle.draft.specs.Draft.{Draft}
 use Rattle.prompt.specs.declared.keys.KeyCode.{KeyCode}
 use Rattle.prompt.specs.declared.keys.KeyCode.TheVariants as code
-use Rattle.prompt.specs.declared.keys.Edit.{Edit}
-use Rattle.prompt.specs.declared.keys.Edit.TheVariants.{Insert, Remove, Move, Transpose}
+use Rattle.prompt.specs.declared.keys.Edit.TheVariants.{Insert}
 use Rattle.prompt.specs.declared.keys.Operation.{Operation}
 use Rattle.prompt.specs.declared.keys.Operation.TheVariants as operation
 use Rattle.prompt.specs.Keys.{operation as operation_of}
@@ -20,7 +19,7 @@ use Rattle.prompt.specs.Requests.{Request, draw, key, paste, resize}
 -- the width that a call draws at
 abbrev pub width_after : Request → (width : ℕ) → ℕ
 width_after draw w = w
-width_after (key m k c) w = w
+width_after (key event) w = w
 width_after (paste bytes) w = w
 width_after (resize new) w = new
 
@@ -50,23 +49,13 @@ wrong_width n w = when (nat_lt w (n + beside_label) || nat_lt widest w) OutsideG
 abbrev pub too_little_spare : ℕ → Reason
 too_little_spare spare = when (nat_lt spare least_spare) LowSpare
 
-abbrev pub is_character : KeyCode → Bool
-is_character code.Char = true
-is_character code.Enter = false
-is_character code.Escape = false
-is_character code.Backspace = false
-is_character code.Delete = false
-is_character code.Left = false
-is_character code.Right = false
-is_character code.Up = false
-is_character code.Down = false
-is_character code.Home = false
-is_character code.End = false
-is_character code.Other = false
-
 -- a character key carries a character; the other keys carry none
-abbrev pub no_scalar : KeyCode → ℕ → Reason
-no_scalar k c = when (is_character k && not (scalar c)) NotScalar
+abbrev pub carries_scalar : KeyCode → Bool
+carries_scalar (code.Char c) = scalar c
+carries_scalar _ = true
+
+abbrev pub no_scalar : KeyCode → Reason
+no_scalar k = when (not (carries_scalar k)) NotScalar
 
 -- the place is the length of the longest front that is well formed
 abbrev pub ill_formed : List ℕ → Reason
@@ -75,35 +64,29 @@ ill_formed bytes = when (not (well_formed bytes)) (IllFormed (front_length bytes
 abbrev pub too_long : (draft-length added : ℕ) → Reason
 too_long n m = when (nat_lt capacity (n + m)) DraftFull
 
-abbrev typed_by : Edit → ℕ
-typed_by Insert = 1
-typed_by (Remove r) = 0
-typed_by (Move m) = 0
-typed_by Transpose = 0
-
--- the characters that an operation adds
+-- how many characters an operation adds
 abbrev pub typed : Operation → ℕ
-typed operation.Finish = 0
-typed operation.Cancel = 0
-typed (operation.Edit e) = typed_by e
-typed operation.Previous = 0
-typed operation.Next = 0
-typed operation.Ignore = 0
+typed (operation.Edit (Insert c)) = 1
+typed _ = 0
+
+-- what every call asks of its glass
+abbrev pub glass_reasons : (label-length width spare : ℕ) → List Reason
+glass_reasons label width spare = wrong_width label width ∷ too_little_spare spare ∷ []
+
+-- what a call asks besides
+abbrev pub own_reasons : Request → (draft-length : ℕ) → List Reason
+own_reasons draw n = []
+own_reasons (key event) n = no_scalar event.key ∷ too_long n (typed (operation_of event)) ∷ []
+own_reasons (paste bytes) n = ill_formed bytes ∷ too_long n (length (characters bytes)) ∷ []
+own_reasons (resize w) n = []
 
 abbrev pub reasons : Request → (label-length width spare draft-length : ℕ) → List Reason
-reasons draw label width spare n = wrong_width label width ∷ too_little_spare spare ∷ []
-reasons (key m k c) label width spare n = wrong_width label width ∷ too_little_spare spare ∷ no_scalar k c ∷ too_long n (typed (operation_of m k c)) ∷ []
-reasons (paste bytes) label width spare n = wrong_width label width ∷ too_little_spare spare ∷ ill_formed bytes ∷ too_long n (length (characters bytes)) ∷ []
-reasons (resize new) label width spare n = wrong_width label new ∷ too_little_spare spare ∷ []
+reasons x label width spare n = glass_reasons label (width_after x width) spare ++ own_reasons x n
 
 abbrev pub refusal : Request → (label-length width spare draft-length : ℕ) → Option Refusal
 refusal x label width spare n = first_of (reasons x label width spare n)
 
 -- why an operation may not be carried out on a draft, if so
-abbrev pub operation_refused : Operation → (character : ℕ) → Draft → Option Refusal
-operation_refused operation.Finish c d = None
-operation_refused operation.Cancel c d = None
-operation_refused (operation.Edit e) c d = edit_refused e c d
-operation_refused operation.Previous c d = None
-operation_refused operation.Next c d = None
-operation_refused operation.Ignore c d = None
+abbrev pub operation_refused : Operation → Draft → Option Refusal
+operation_refused (operation.Edit e) d = edit_refused e d
+operation_refused _ d = None

@@ -5,8 +5,7 @@ use Rattle.glass.specs.Row.{Row}
 use Rattle.history.specs.Session.{remembered_texts}
 use Rattle.prompt.specs.declared.state.Prompt.{Prompt}
 use Rattle.prompt.specs.declared.session.Call.{Call}
-use Rattle.prompt.specs.declared.session.Reply.{Reply}
-use Rattle.prompt.specs.Requests.{Request}
+use Rattle.prompt.specs.Requests.{Request, Reply}
 use Rattle.prompt.specs.Opening.{opened_with}
 use Rattle.prompt.specs.Session.{session, OneCall}
 use Rattle.prompt.specs.Promise.{RowShowsTheDraft}

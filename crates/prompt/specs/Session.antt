@@ -1,5 +1,5 @@
 -- A prompt as a value, and what one call makes of it and of its glass.
-use Rattle.std.specs.Prelude.{◌≡◌, ℕ, ◌+◌, ◌-◌, Bool, true, false, cond, List, [], ◌∷◌, ◌++◌, map, length, take, Some, None, Option, nat_lt, slice_index_or, slice_set}
+use Rattle.std.specs.Prelude.{◌≡◌, ℕ, ◌+◌, ◌-◌, Bool, true, false, cond, List, [], ◌∷◌, ◌++◌, map, length, Some, None, Option, nat_lt, slice_index_or, slice_set, Ok, Err}
 use Rattle.text.specs.declared.refusal.Refusal.{Refusal}
 use Rattle.text.specs.Utf8.{characters}
 use Rattle.font.specs.declared.Columns.{Columns}
@@ -12,14 +12,13 @@ use Rattle.draft.specs.Draft.{Draft, draft}
 use Rattle.draft.specs.Edits.{inserting, clamping, redraw_if}
 use Rattle.drawing.specs.Drawing.{drawing, text_start}
 use Rattle.history.specs.Session.{session_of}
+use Rattle.prompt.specs.declared.keys.Edit.TheVariants.{Insert}
 use Rattle.prompt.specs.declared.keys.Operation.{Operation}
 use Rattle.prompt.specs.declared.keys.Operation.TheVariants as operation
 use Rattle.prompt.specs.declared.state.Prompt.{Prompt}
-use Rattle.prompt.specs.declared.session.Reply.{Reply}
-use Rattle.prompt.specs.declared.session.Reply.TheVariants.{Done, Answered, Refused}
 use Rattle.prompt.specs.Keys.{operation as operation_of}
 use Rattle.prompt.specs.Edits.{editing, answer_to_edit}
-use Rattle.prompt.specs.Requests.{Request, draw, key, paste, resize}
+use Rattle.prompt.specs.Requests.{Request, draw, key, paste, resize, Reply}
 use Rattle.prompt.specs.Ledger.{Ledger, hand_back, hand_on, entered}
 use Rattle.prompt.specs.Refused.{refusal, width_after}
 
@@ -29,7 +28,7 @@ pub record Session : Type 0 where
   pub hand : ℕ
 
 abbrev pub session : Prompt → Session
-session p = record { label = take p.label_len p.label; drafts = (session_of p.history).drafts; hand = (session_of p.history).hand }
+session p = record { label = p.label.items; drafts = (session_of p.history).drafts; hand = (session_of p.history).hand }
 
 abbrev pub empty_draft : Draft
 empty_draft = draft empty_line 0
@@ -65,13 +64,13 @@ with_hand h s = record { label = s.label; drafts = s.drafts; hand = h }
 abbrev pub scrolled : (ℕ → Columns) → (width : ℕ) → Session → Session
 scrolled columns width s = with_draft (clamping columns (room width s) (draft_in_hand s)) s
 
-abbrev pub operated : (ℕ → Columns) → Operation → (character : ℕ) → Session → Session
-operated columns operation.Finish c s = s
-operated columns operation.Cancel c s = s
-operated columns (operation.Edit e) c s = with_draft (editing columns e c (draft_in_hand s)) s
-operated columns operation.Previous c s = with_hand (hand_back s.hand) s
-operated columns operation.Next c s = with_hand (hand_on (length s.drafts) s.hand) s
-operated columns operation.Ignore c s = s
+abbrev pub operated : (ℕ → Columns) → Operation → Session → Session
+operated columns operation.Finish s = s
+operated columns operation.Cancel s = s
+operated columns (operation.Edit e) s = with_draft (editing columns e (draft_in_hand s)) s
+operated columns operation.Previous s = with_hand (hand_back s.hand) s
+operated columns operation.Next s = with_hand (hand_on (length s.drafts) s.hand) s
+operated columns operation.Ignore s = s
 
 -- whether the draft in hand is scrolled after the operation
 abbrev pub scrolls : Operation → Bool
@@ -82,43 +81,41 @@ scrolls operation.Previous = true
 scrolls operation.Next = true
 scrolls operation.Ignore = false
 
-abbrev pub after_operation : (ℕ → Columns) → (width : ℕ) → Operation → (character : ℕ) → Session → Session
-after_operation columns width o c s = cond (scrolls o) (scrolled columns width (operated columns o c s)) s
+abbrev pub after_operation : (ℕ → Columns) → (width : ℕ) → Operation → Session → Session
+after_operation columns width o s = cond (scrolls o) (scrolled columns width (operated columns o s)) s
 
 -- the prompt after an accepted call, at the width that it draws at
 abbrev pub after : (ℕ → Columns) → (width : ℕ) → Request → Session → Session
 after columns width draw s = s
-after columns width (key m k c) s = after_operation columns width (operation_of m k c) c s
+after columns width (key event) s = after_operation columns width (operation_of event) s
 after columns width (paste bytes) s = scrolled columns width (with_draft (inserting (characters bytes) (draft_in_hand s)) s)
 after columns width (resize w) s = scrolled columns width s
 
-abbrev pub action_of : (ℕ → Columns) → (width : ℕ) → Operation → (character : ℕ) → Session → DisplayAction
-action_of columns width operation.Finish c s = action.Finish
-action_of columns width operation.Cancel c s = action.Cancel
-action_of columns width (operation.Edit e) c s = answer_to_edit columns (room width s) e c (draft_in_hand s)
-action_of columns width operation.Previous c s = redraw_if (nat_lt 0 s.hand)
-action_of columns width operation.Next c s = redraw_if (nat_lt (s.hand + 1) (length s.drafts))
-action_of columns width operation.Ignore c s = action.Nothing
+abbrev pub action_of : (ℕ → Columns) → (width : ℕ) → Operation → Session → DisplayAction
+action_of columns width operation.Finish s = action.Finish
+action_of columns width operation.Cancel s = action.Cancel
+action_of columns width (operation.Edit e) s = answer_to_edit columns (room width s) e (draft_in_hand s)
+action_of columns width operation.Previous s = redraw_if (nat_lt 0 s.hand)
+action_of columns width operation.Next s = redraw_if (nat_lt (s.hand + 1) (length s.drafts))
+action_of columns width operation.Ignore s = action.Nothing
 
 -- what an accepted call answers
 abbrev pub answer : (ℕ → Columns) → (width : ℕ) → Request → Session → Reply
-answer columns width draw s = Done
-answer columns width (key m k c) s = Answered (action_of columns width (operation_of m k c) c s)
-answer columns width (paste bytes) s = Answered action.Redraw
-answer columns width (resize w) s = Done
+answer columns width draw s = Ok None
+answer columns width (key event) s = Ok (Some (action_of columns width (operation_of event) s))
+answer columns width (paste bytes) s = Ok (Some action.Redraw)
+answer columns width (resize w) s = Ok None
 
--- what an answer asks of the glass: a letter is written alone, and a redraw draws all
-abbrev pub calls_by : DisplayAction → (letter : ℕ) → List GlassCall → List GlassCall
-calls_by action.Nothing c ks = []
-calls_by action.Letter c ks = text (c ∷ []) ∷ []
-calls_by action.Redraw c ks = ks
-calls_by action.Finish c ks = []
-calls_by action.Cancel c ks = []
+-- what the answer to an operation asks of the glass: a letter is written alone, and a redraw draws all
+abbrev pub calls_by : DisplayAction → Operation → List GlassCall → List GlassCall
+calls_by action.Letter (operation.Edit (Insert c)) ks = text (c ∷ []) ∷ []
+calls_by action.Redraw o ks = ks
+calls_by _ o ks = []
 
 -- what an accepted call asks of the glass
 abbrev pub glass_calls : (ℕ → Columns) → (width : ℕ) → Request → Session → List GlassCall
 glass_calls columns width draw s = drawn columns width s
-glass_calls columns width (key m k c) s = calls_by (action_of columns width (operation_of m k c) c s) c (drawn columns width (after columns width (key m k c) s))
+glass_calls columns width (key event) s = calls_by (action_of columns width (operation_of event) s) (operation_of event) (drawn columns width (after columns width (key event) s))
 glass_calls columns width (paste bytes) s = drawn columns width (after columns width (paste bytes) s)
 glass_calls columns width (resize w) s = reshape w ∷ drawn columns width (after columns width (resize w) s)
 
@@ -126,7 +123,7 @@ glass_calls columns width (resize w) s = reshape w ∷ drawn columns width (afte
 module _ {G : Type 0} (columns : ℕ → Columns) (row : G → Row) (spare : G → ℕ) where
   -- what the table says of a call
   abbrev pub refused_now : Request → Prompt → G → Option Refusal
-  refused_now x p g = refusal x p.label_len (width_of (row g)) (spare g) (length (draft_in_hand (session p)).line.text)
+  refused_now x p g = refusal x (length (session p).label) (width_of (row g)) (spare g) (length (draft_in_hand (session p)).line.text)
 
   abbrev pub drawn_at : Request → G → ℕ
   drawn_at x g = width_after x (width_of (row g))
@@ -137,7 +134,7 @@ module _ {G : Type 0} (columns : ℕ → Columns) (row : G → Row) (spare : G �
     pub row_after : row h ≡ apply_all columns (glass_calls columns (drawn_at x g) x (session p)) (row g)
 
   pub record Refusing (e : Refusal) (p : Prompt) (g : G) (r : Reply) (q : Prompt) (h : G) : Type 0 where
-    pub told_why : r ≡ Refused e
+    pub told_why : r ≡ Err e
     pub same_prompt : q ≡ p
     pub same_glass : h ≡ g
 

@@ -12,26 +12,23 @@ use history::store::PromptHistory;
 use text::refusal::Refusal;
 
 /// Carries an edit out on the draft in hand.
+#[tactic(auto, using(history::proofs::InHand::hand_edited))]
 pub fn edit<F: Font>(
     history: &mut PromptHistory,
     edit: Edit,
-    code: u32,
     room: usize,
 ) -> Result<DisplayAction, Refusal>
-    ensures answer_is { result ≡ unless_refused (edit_refused edit code (draft_in_hand (session_of history.old))) (answer_to_edit F.Font.columns room edit code (draft_in_hand (session_of history.old))) }
-    ensures after { OnOk result (session_of history.new ≡ with_draft (editing F.Font.columns edit code (draft_in_hand (session_of history.old))) (session_of history.old)) }
+    ensures answer_is { result ≡ unless_refused (edit_refused edit (draft_in_hand (session_of history.old))) (answer_to_edit F.Font.columns room edit (draft_in_hand (session_of history.old))) }
+    ensures after { OnOk result (session_of history.new ≡ with_draft (editing F.Font.columns edit (draft_in_hand (session_of history.old))) (session_of history.old)) }
     ensures unchanged_if_refused { OnErr result (history.new ≡ history.old) }
 {
-    let i = history.active_index;
-    let entries = &mut history.entries;
-    perform::<F>(&mut entries[i], edit, code, room)
+    perform::<F>(history.state_mut(), edit, room)
 }
 
 /// Scrolls the draft in hand, with `room` columns for its text.
+#[tactic(auto, using(history::proofs::InHand::hand_edited))]
 pub fn scroll<F: Font>(history: &mut PromptHistory, room: usize)
     ensures after { session_of history.new ≡ with_draft (clamping F.Font.columns room (draft_in_hand (session_of history.old))) (session_of history.old) }
 {
-    let i = history.active_index;
-    let entries = &mut history.entries;
-    entries[i].clamp_offset::<F>(room);
+    history.state_mut().clamp_offset::<F>(room);
 }

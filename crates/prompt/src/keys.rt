@@ -11,10 +11,11 @@ pub enum Modifiers {
     Other,
 }
 
-/// A key. The character of a character key is told beside it.
+/// A key.
 #[derive(Clone, Copy, PartialEq, Eq, Debug)]
 pub enum KeyCode {
-    Char,
+    /// A character key, with the code of its character.
+    Char(u32),
     Enter,
     Escape,
     Backspace,
@@ -26,6 +27,13 @@ pub enum KeyCode {
     Home,
     End,
     Other,
+}
+
+/// A key that is pressed, and what is held with it.
+#[derive(Clone, Copy, PartialEq, Eq, Debug)]
+pub struct KeyEvent {
+    pub key: KeyCode,
+    pub modifiers: Modifiers,
 }
 
 /// What a removal takes away, from the place on or up to it.
@@ -53,8 +61,8 @@ pub enum Motion {
 /// An edit of the draft in hand.
 #[derive(Clone, Copy, PartialEq, Eq, Debug)]
 pub enum Edit {
-    /// The key's character comes in at the place.
-    Insert,
+    /// The character comes in at the place.
+    Insert(u32),
     Remove(Removal),
     Move(Motion),
     Transpose,
@@ -86,44 +94,44 @@ fn go(motion: Motion) -> Operation
 }
 
 /// Ctrl and a character.
-fn with_ctrl(c: char) -> Operation
-    ensures value { result ≡ ctrl_character c }
+fn with_ctrl(code: u32) -> Operation
+    ensures value { result ≡ ctrl_character code }
 {
-    match c {
-        'j' | 'm' => Operation::Finish,
-        'c' => Operation::Cancel,
-        'h' => remove(Removal::PrevChar),
-        'd' => remove(Removal::NextChar),
-        'w' => remove(Removal::PrevWord),
-        'f' => go(Motion::Right),
-        'b' => go(Motion::Left),
-        'k' => remove(Removal::ToEnd),
-        'u' => remove(Removal::ToStart),
-        'e' => go(Motion::End),
-        'a' => go(Motion::Start),
-        't' => Operation::Edit(Edit::Transpose),
+    match char::from_u32(code) {
+        Some('j' | 'm') => Operation::Finish,
+        Some('c') => Operation::Cancel,
+        Some('h') => remove(Removal::PrevChar),
+        Some('d') => remove(Removal::NextChar),
+        Some('w') => remove(Removal::PrevWord),
+        Some('f') => go(Motion::Right),
+        Some('b') => go(Motion::Left),
+        Some('k') => remove(Removal::ToEnd),
+        Some('u') => remove(Removal::ToStart),
+        Some('e') => go(Motion::End),
+        Some('a') => go(Motion::Start),
+        Some('t') => Operation::Edit(Edit::Transpose),
         _ => Operation::Ignore,
     }
 }
 
 /// Alt and a character.
-fn with_alt(c: char) -> Operation
-    ensures value { result ≡ alt_character c }
+fn with_alt(code: u32) -> Operation
+    ensures value { result ≡ alt_character code }
 {
-    match c {
-        'd' => remove(Removal::NextWord),
-        'f' => go(Motion::NextWord),
-        'b' => go(Motion::PrevWord),
+    match char::from_u32(code) {
+        Some('d') => remove(Removal::NextWord),
+        Some('f') => go(Motion::NextWord),
+        Some('b') => go(Motion::PrevWord),
         _ => Operation::Ignore,
     }
 }
 
-/// What a key asks for, by its modifiers and its character.
-pub fn operation_of(modifiers: Modifiers, key: KeyCode, c: char) -> Operation
-    ensures value { result ≡ operation modifiers key c }
+/// What a key asks for.
+pub fn operation_of(event: KeyEvent) -> Operation
+    ensures value { result ≡ operation event }
 {
-    match (modifiers, key) {
-        (Modifiers::None, KeyCode::Char) => Operation::Edit(Edit::Insert),
+    match (event.modifiers, event.key) {
+        (Modifiers::None, KeyCode::Char(code)) => Operation::Edit(Edit::Insert(code)),
         (Modifiers::None, KeyCode::Enter) => Operation::Finish,
         (Modifiers::None, KeyCode::Escape) => Operation::Cancel,
         (Modifiers::None, KeyCode::Backspace) => remove(Removal::PrevChar),
@@ -134,10 +142,10 @@ pub fn operation_of(modifiers: Modifiers, key: KeyCode, c: char) -> Operation
         (Modifiers::None, KeyCode::Down) => Operation::Next,
         (Modifiers::None, KeyCode::Home) => go(Motion::Start),
         (Modifiers::None, KeyCode::End) => go(Motion::End),
-        (Modifiers::Ctrl, KeyCode::Char) => with_ctrl(c),
+        (Modifiers::Ctrl, KeyCode::Char(code)) => with_ctrl(code),
         (Modifiers::Ctrl, KeyCode::Left) => go(Motion::PrevWord),
         (Modifiers::Ctrl, KeyCode::Right) => go(Motion::NextWord),
-        (Modifiers::Alt, KeyCode::Char) => with_alt(c),
+        (Modifiers::Alt, KeyCode::Char(code)) => with_alt(code),
         (Modifiers::Alt, KeyCode::Backspace) => remove(Removal::PrevWord),
         _ => Operation::Ignore,
     }

@@ -1,43 +1,31 @@
 // A prompt opens with a label and the host's bytes of history.
-ghost use Rattle.std.specs.Prelude.{◌≡◌, ◌≤◌, ◌&&◌, length, take, IfOk, nat_le};
+ghost use Rattle.std.specs.Prelude.{◌≡◌, ◌≤◌, length, IfOk};
 ghost use Rattle.drawing.specs.Ascii.{printable};
 ghost use Rattle.drawing.specs.Drawing.{longest_label};
 ghost use Rattle.prompt.specs.Opening.{opening_refused, refusal_in, opened_with};
 ghost use Rattle.prompt.specs.Session.{session};
 
 use crate::state::Prompt;
+use arrayvec::ArrayVec;
 use drawing::draw::LONGEST_LABEL;
 use history::store::PromptHistory;
 use text::refusal::Refusal;
 
-/// Whether a byte is a space or a visible character of ASCII.
-fn is_visible(byte: u8) -> bool
-    ensures value { result ≡ (nat_le 0x20 byte && nat_le byte 0x7E) }
-{
-    matches!(byte, 0x20..=0x7E)
-}
-
-/// Whether each of the bytes is one.
+/// Whether each of the bytes is a space or a visible character of ASCII.
 fn is_printable(label: &[u8]) -> bool
     ensures value { result ≡ printable label.now }
 {
-    for byte in label {
-        if !is_visible(*byte) {
-            return false;
-        }
-    }
-    true
+    label.iter().all(|byte| matches!(byte, 0x20..=0x7E))
 }
 
-/// The label's characters, at the front of a prompt's memory for them.
-fn characters_of(label: &[u8]) -> [u32; LONGEST_LABEL]
+/// The label's characters.
+fn characters_of(label: &[u8]) -> ArrayVec<u32, LONGEST_LABEL>
     requires short { length label.now ≤ longest_label }
-    ensures front_is { take (length label.now) result ≡ label.now }
-    ensures whole { length result ≡ longest_label }
+    ensures value { result.items ≡ label.now }
 {
-    let mut characters = [0; LONGEST_LABEL];
-    for (i, byte) in label.iter().enumerate() {
-        characters[i] = u32::from(*byte);
+    let mut characters = ArrayVec::new();
+    for byte in label {
+        characters.push(u32::from(*byte));
     }
     characters
 }
@@ -55,7 +43,6 @@ impl Prompt {
         Ok(Prompt {
             history: PromptHistory::open(history)?,
             label: characters_of(label),
-            label_len: label.len(),
         })
     }
 }

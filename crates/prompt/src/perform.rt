@@ -42,15 +42,14 @@ fn go<F: Font>(draft: &mut PromptState, motion: Motion) -> DisplayAction
 pub fn perform<F: Font>(
     draft: &mut PromptState,
     edit: Edit,
-    code: u32,
     room: usize,
 ) -> Result<DisplayAction, Refusal>
-    ensures answer_is { result ≡ unless_refused (edit_refused edit code (draft_of draft.old)) (answer_to_edit F.Font.columns room edit code (draft_of draft.old)) }
-    ensures after { OnOk result (draft_of draft.new ≡ editing F.Font.columns edit code (draft_of draft.old)) }
+    ensures answer_is { result ≡ unless_refused (edit_refused edit (draft_of draft.old)) (answer_to_edit F.Font.columns room edit (draft_of draft.old)) }
+    ensures after { OnOk result (draft_of draft.new ≡ editing F.Font.columns edit (draft_of draft.old)) }
     ensures unchanged_if_refused { OnErr result (draft.new ≡ draft.old) }
 {
     match edit {
-        Edit::Insert => draft.insert_char::<F>(code, room),
+        Edit::Insert(code) => draft.insert_char::<F>(code, room),
         Edit::Remove(removal) => Ok(remove(draft, removal)),
         Edit::Move(motion) => Ok(go::<F>(draft, motion)),
         Edit::Transpose => Ok(draft.transpose_chars()),

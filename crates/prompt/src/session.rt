@@ -1,5 +1,5 @@
 // The calls of a session as values, and the replies to them.
-use crate::keys::{KeyCode, Modifiers};
+use crate::keys::KeyEvent;
 use draft::action::DisplayAction;
 use text::refusal::Refusal;
 
@@ -9,15 +9,10 @@ pub mod run;
 #[derive(Clone, Copy)]
 pub enum Call<'a> {
     Draw,
-    Key(Modifiers, KeyCode, u32),
+    Key(KeyEvent),
     Paste(&'a [u8]),
     Resize(usize),
 }
 
-/// What a call came to.
-#[derive(Clone, Copy, PartialEq, Eq, Debug)]
-pub enum Reply {
-    Done,
-    Answered(DisplayAction),
-    Refused(Refusal),
-}
+/// What a call came to: what it answered, if it answers anything, or why it was refused.
+pub type Reply = Result<Option<DisplayAction>, Refusal>;

@@ -1,16 +1,16 @@
 // A prompt: its label, and the drafts of its session.
-ghost use Rattle.std.specs.Prelude.{◌≡◌, ◌≤◌, true, length, take};
+ghost use Rattle.std.specs.Prelude.{◌≡◌, ◌≤◌, true, length};
 ghost use Rattle.drawing.specs.Ascii.{printable};
 ghost use Rattle.drawing.specs.Drawing.{longest_label};
 
+use arrayvec::ArrayVec;
 use drawing::draw::LONGEST_LABEL;
 use history::store::PromptHistory;
 
-/// A prompt: a label, and the drafts of a session. It may be let go; `cancel` says so. The label is the first `label_len` of its characters, each a character of 20 to 7E.
+/// A prompt: a label of 1 to 32 characters of 20 to 7E, and the drafts of a session. It may be let go; `cancel` says so.
 #[derive(Drop)]
 pub struct Prompt {
-    pub(crate) label: [u32; LONGEST_LABEL],
-    pub(crate) label_len: usize,
+    pub(crate) label: ArrayVec<u32, LONGEST_LABEL>,
     pub(crate) history: PromptHistory,
-    ghost titled: { (1 ≤ label_len) × (label_len ≤ longest_label) × (printable (take label_len label) ≡ true) × (length label ≡ longest_label) },
+    ghost titled: { (1 ≤ length label.items) × (length label.items ≤ longest_label) × (printable label.items ≡ true) },
 }

@@ -10,7 +10,6 @@ ghost use Rattle.prompt.specs.Requests.{Request, answered_by};
 ghost use Rattle.prompt.specs.Refused.{beside_label};
 ghost use Rattle.prompt.specs.Session.{session, draft_in_hand, scrolled, with_draft, OneCall};
 
-use super::ready;
 use crate::state::Prompt;
 use draft::action::DisplayAction;
 use font::Font;
@@ -20,10 +19,8 @@ use text::refusal::Refusal;
 impl Prompt {
     /// Inserts the text that bytes spell in the draft in hand, which is scrolled then.
     fn insert<F: Font>(&mut self, bytes: &[u8], width: usize) -> Result<DisplayAction, Refusal>
-        requires inside { self.old.label_len + beside_label ≤ width }
         ensures answer_is { result ≡ unless_refused (pasting_refused bytes.now (draft_in_hand (session self.old))) Redraw }
         ensures after { OnOk result (session self.new ≡ scrolled F.Font.columns width (with_draft (inserting (characters bytes.now) (draft_in_hand (session self.old))) (session self.old))) }
-        ensures label_kept { self.new.label_len ≡ self.old.label_len }
         ensures unchanged_if_refused { OnErr result (self.new ≡ self.old) }
     {
         let action = self.history.insert_bytes(bytes)?;
@@ -37,8 +34,8 @@ impl Prompt {
         ensures drew { Drew G.Font.Font.columns G.Glass.row G.Glass.spare (calls_made G.Font.Font.columns G.Glass.row G.Glass.spare (Request.paste bytes.now) self.old glass.old) glass.old glass.new }
         ensures keeps { StaysTied (calls_made G.Font.Font.columns G.Glass.row G.Glass.spare (Request.paste bytes.now) self.old glass.old) (G.Glass.tied glass.old) (G.Glass.tied glass.new) }
     {
-        let width = G::width(glass);
-        ready(self.label_len, width, G::spare_left(glass))?;
+        let width = glass.width();
+        self.ready(glass, width)?;
         let action = self.insert::<G::Font>(bytes, width)?;
         self.render(glass, width);
         Ok(action)

@@ -7,7 +7,7 @@ ghost use Rattle.prompt.specs.Session.{session, draft_in_hand};
 
 use super::FinishedText;
 use crate::state::Prompt;
-use history::writing::{Written, write};
+use history::writing::write;
 use jump::goto::{Jump, goto};
 use text::refusal::Refusal;
 
@@ -17,18 +17,11 @@ impl Prompt {
         ensures text_in_hand { finished_text result ≡ (draft_in_hand (session self)).line.text }
     {
         let draft = *self.history.state();
-        self.cancel();
         FinishedText { draft }
     }
 
     /// Ends the prompt.
-    pub fn cancel(self) {
-        let Prompt {
-            label: _,
-            label_len: _,
-            history: _,
-        } = self;
-    }
+    pub fn cancel(self) {}
 }
 
 impl FinishedText {
@@ -40,7 +33,7 @@ impl FinishedText {
     }
 
     /// Writes the host's history anew to the front of `out`: the last readable lines as they stood, and this text.
-    pub fn write_history(&self, history: &[u8], out: &mut [u8]) -> Result<Written, Refusal>
+    pub fn write_history(&self, history: &[u8], out: &mut [u8]) -> Result<Option<usize>, Refusal>
         ensures answer_is { result ≡ write_answer (finished_text self.now) history.now (length out.old) }
         ensures after { out.new ≡ buffer_after result (written (finished_text self.now) history.now) out.old }
     {

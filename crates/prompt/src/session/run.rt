@@ -5,34 +5,13 @@ ghost use Rattle.glass.specs.Calls.{Drew};
 ghost use Rattle.glass.specs.Ties.{StaysTied};
 ghost use Rattle.prompt.specs.Made.{calls_made, ChangedByCalls};
 ghost use Rattle.prompt.specs.Runs.{Run, replied_to, SessionShowsTheDraft};
-ghost use Rattle.prompt.specs.Requests.{request, reply_of, answered_by};
+ghost use Rattle.prompt.specs.Requests.{request};
 ghost use Rattle.prompt.specs.Session.{OneCall};
 
 use super::{Call, Reply};
 use crate::state::Prompt;
-use draft::action::DisplayAction;
 use glass::Glass;
 use text::refusal::Refusal;
-
-/// The reply to a call that answers nothing.
-fn done(res: Result<(), Refusal>) -> Reply
-    ensures value { result ≡ reply_of res }
-{
-    match res {
-        Ok(()) => Reply::Done,
-        Err(refusal) => Reply::Refused(refusal),
-    }
-}
-
-/// The reply to a call that answers with an action.
-fn answered(res: Result<DisplayAction, Refusal>) -> Reply
-    ensures value { result ≡ answered_by res }
-{
-    match res {
-        Ok(action) => Reply::Answered(action),
-        Err(refusal) => Reply::Refused(refusal),
-    }
-}
 
 impl Prompt {
     /// Makes one call, whichever it is.
@@ -42,10 +21,10 @@ impl Prompt {
         ensures keeps { StaysTied (calls_made G.Font.Font.columns G.Glass.row G.Glass.spare (request call.entry) self.old glass.old) (G.Glass.tied glass.old) (G.Glass.tied glass.new) }
     {
         match call {
-            Call::Draw => done(self.draw(glass)),
-            Call::Key(modifiers, key, code) => answered(self.key(glass, modifiers, key, code)),
-            Call::Paste(bytes) => answered(self.paste(glass, bytes)),
-            Call::Resize(width) => done(self.resize(glass, width)),
+            Call::Draw => self.draw(glass).map(|()| None),
+            Call::Key(event) => self.key(glass, event).map(Some),
+            Call::Paste(bytes) => self.paste(glass, bytes).map(Some),
+            Call::Resize(width) => self.resize(glass, width).map(|()| None),
         }
     }
 
@@ -56,6 +35,7 @@ impl Prompt {
         ensures rest_kept { drop (replied_to calls.now replies.old) replies.new ≡ drop (replied_to calls.now replies.old) replies.old }
     {
         let count = calls.len().min(replies.len());
+        // By an index: of `replies.iter_mut().zip(calls)` no proof knows what the loop wrote.
         for i in 0..count {
             replies[i] = self.perform(glass, calls[i]);
         }

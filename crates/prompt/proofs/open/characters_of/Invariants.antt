@@ -1,6 +1,5 @@
-use Rattle.std.proofs.Common.{◌≡◌, length, take}
-use Rattle.drawing.specs.Drawing.{longest_label}
+use Rattle.std.proofs.Common.{◌≡◌, take}
 use Rattle.prompt.proofs.open.characters_of.Given as goal
 
-abbrev pub invariant-loop-i : goal.invariant-loop-i
-invariant-loop-i l = (take l.i l.characters ≡ take l.i l.label) × (length l.characters ≡ longest_label)
+abbrev pub invariant-loop-byte : goal.invariant-loop-byte
+invariant-loop-byte l = l.characters.items ≡ take l.byte-index l.label

@@ -1,47 +1,43 @@
-use Rattle.std.proofs.Common.{◌≡◌, ℕ, ◌+◌, ◌≤◌, None, Err, sym, ap, ◌∙◌, subst, arith}
-use Rattle.std.proofs.lemmas.Result.{err_from_is_err_and}
-use Rattle.prompt.specs.Requests.{draw}
-use Rattle.prompt.specs.Refused.{refusal, beside_label}
-use Rattle.glass.proofs.DrewTied.{both}
+use Rattle.std.proofs.Common.{◌+◌, ◌≤◌, length, Ok, Some, ap, ◌∙◌, subst, arith, ◌≡◌}
+use Rattle.glass.proofs.DrewTied.{DrewTied, both}
+use Rattle.draft.specs.declared.action.DisplayAction.{DisplayAction}
+use Rattle.draft.specs.declared.action.DisplayAction.TheVariants.{Redraw}
+use Rattle.draft.specs.Edits.{pasting_refused}
+use Rattle.prompt.specs.Requests.{paste}
+use Rattle.prompt.specs.Refused.{beside_label}
+use Rattle.prompt.specs.Session.{Session, session, draft_in_hand, drawn}
 use Rattle.prompt.proofs.CallTied.{plainly, drew_made, kept_by}
-use Rattle.prompt.proofs.Ready.{ready, can_draw}
-use Rattle.prompt.proofs.Pasted.{refused_by_glass, refused_by_draft, done}
+use Rattle.prompt.proofs.Ready.{ready_now, can_draw}
+use Rattle.prompt.proofs.Table.{paste_by_text}
+use Rattle.prompt.proofs.Told.{refused_with, not_refused, refused_by_glass, refused_itself, accepted}
 use Rattle.prompt.proofs.state.Prompt.paste.Goals as goal
 
 pub returns-in_err-ready : goal.returns-in_err-ready
 returns-in_err-ready g c =
-    let back = err_from_is_err_and c.from_residual.result c.from_residual.ensures.1 in
-    let call = refused_by_glass g.G.Font.Font.columns g.G.Glass.row g.G.Glass.spare g.G.Glass.tied c.args.bytes.now c.args.self.now c.args.glass.now
-    c.width-width.result c.spare_left.result c.width-width.ensures.value c.spare_left.ensures.value
-    c.in_err-ready.field-0.0 c.from_residual.result c.in_err-ready.ensures.refused_exactly (back.1 ∙ ap Err back.2) in
-    record {
-      one_call = plainly g.G.Font.Font.columns g.G.Glass.row g.G.Glass.spare g.G.Glass.tied call;
-      drew = drew_made g.G.Font.Font.columns g.G.Glass.row g.G.Glass.spare g.G.Glass.tied call;
-      keeps = kept_by g.G.Font.Font.columns g.G.Glass.row g.G.Glass.spare g.G.Glass.tied call;
-    }
+    let call = refused_by_glass g.G.Font.Font.columns g.G.Glass.row g.G.Glass.spare g.G.Glass.tied (paste c.args.bytes.now) c.args.self.now c.args.glass.now c.width-width.result c.width-width.ensures.value
+    c.from_residual.result c.in_err-ready.field-0.0 c.from_residual.ensures.1 c.in_err-ready.ensures.refused_exactly in
+    record { one_call = plainly call; drew = drew_made call; keeps = kept_by call }
 
 pub returns-in_err-action : goal.returns-in_err-action
 returns-in_err-action g c =
-    let back = err_from_is_err_and c.from_residual-in_err-action.result c.from_residual-in_err-action.ensures.1 in
-    let call = refused_by_draft g.G.Font.Font.columns g.G.Glass.row g.G.Glass.spare g.G.Glass.tied c.args.bytes.now c.args.self.now c.args.glass.now
-    c.width-width.result c.spare_left.result c.width-width.ensures.value c.spare_left.ensures.value c.in_ok-ready.ensures.refused_exactly
-    c.in_err-action.field-0.0 c.from_residual-in_err-action.result c.insert.new.self (sym c.insert.ensures.answer_is ∙ c.in_err-action.was) (back.1 ∙ ap Err back.2) c.in_err-action.ensures.unchanged_if_refused in
-    record {
-      one_call = plainly g.G.Font.Font.columns g.G.Glass.row g.G.Glass.spare g.G.Glass.tied call;
-      drew = drew_made g.G.Font.Font.columns g.G.Glass.row g.G.Glass.spare g.G.Glass.tied call;
-      keeps = kept_by g.G.Font.Font.columns g.G.Glass.row g.G.Glass.spare g.G.Glass.tied call;
-    }
+    let bytes = c.args.bytes.now in
+    let p = c.args.self.now in
+    let d = draft_in_hand (session p) in
+    let e = c.in_err-action.field-0.0 in
+    let own = paste_by_text bytes d ∙ refused_with (pasting_refused bytes d) Redraw e c.insert.ensures.answer_is c.in_err-action.was in
+    let call = refused_itself g.G.Font.Font.columns g.G.Glass.row g.G.Glass.spare g.G.Glass.tied (paste bytes) p c.args.glass.now c.width-width.result c.width-width.ensures.value c.in_ok-ready.ensures.refused_exactly
+    c.from_residual-in_err-action.result e c.insert.new.self c.from_residual-in_err-action.ensures.1 c.in_err-action.ensures.unchanged_if_refused own in
+    record { one_call = plainly call; drew = drew_made call; keeps = kept_by call }
 
 pub render-requires : goal.render-requires
 render-requires g c =
-    let p = c.args.self.now in
     let q = c.insert.new.self in
     let h = c.args.glass.now in
     let w = c.width-width.result in
     let s = g.G.Glass.spare h in
-    let e : refusal draw p.label_len w s 0 ≡ None = subst (λ (n : ℕ). refusal draw p.label_len w n 0 ≡ None) c.spare_left.ensures.value c.in_ok-ready.ensures.refused_exactly in
-    let t = ready p.label_len w s 0 e in
-    let wide : q.label_len + beside_label ≤ w = omega (arith, t.wide_enough, c.insert.ensures.label_kept) in
+    let t = ready_now _ w s c.in_ok-ready.ensures.refused_exactly in
+    let n : length (session q).label ≡ length (session c.args.self.now).label = ap (λ (x : Session). length x.label) c.in_ok-action.ensures.after in
+    let wide : length (session q).label + beside_label ≤ w = omega (arith, t.wide_enough, n) in
     record {
       inside = (wide, t.not_too_wide);
       allowed = can_draw g.G.Font.Font.columns q (g.G.Glass.row h) w s c.width-width.ensures.value wide t.not_too_wide (omega (arith, t.can_pay));
@@ -49,11 +45,19 @@ render-requires g c =
 
 pub returns : goal.returns
 returns g c =
-    let call = done g.G.Font.Font.columns g.G.Glass.row g.G.Glass.spare g.G.Glass.tied c.args.bytes.now c.args.self.now c.args.glass.now
-    c.width-width.result c.spare_left.result c.width-width.ensures.value c.spare_left.ensures.value c.in_ok-ready.ensures.refused_exactly
-    c.in_ok-action.action c.insert.new.self c.render.new.glass (sym c.insert.ensures.answer_is ∙ c.in_ok-action.was) c.in_ok-action.ensures.after (both g.G.Font.Font.columns g.G.Glass.row g.G.Glass.spare g.G.Glass.tied c.render.ensures.drew c.render.ensures.keeps) in
-    record {
-      one_call = plainly g.G.Font.Font.columns g.G.Glass.row g.G.Glass.spare g.G.Glass.tied call;
-      drew = drew_made g.G.Font.Font.columns g.G.Glass.row g.G.Glass.spare g.G.Glass.tied call;
-      keeps = kept_by g.G.Font.Font.columns g.G.Glass.row g.G.Glass.spare g.G.Glass.tied call;
-    }
+    let cols = g.G.Font.Font.columns in
+    let row = g.G.Glass.row in
+    let spare = g.G.Glass.spare in
+    let tied = g.G.Glass.tied in
+    let bytes = c.args.bytes.now in
+    let p = c.args.self.now in
+    let q = c.insert.new.self in
+    let f = c.args.glass.now in
+    let w = c.width-width.result in
+    let d = draft_in_hand (session p) in
+    let told = not_refused (pasting_refused bytes d) Redraw c.in_ok-action.action c.insert.ensures.answer_is c.in_ok-action.was in
+    let then = c.in_ok-action.ensures.after in
+    let call = accepted cols row spare tied (paste bytes) p f w c.width-width.ensures.value c.in_ok-ready.ensures.refused_exactly (Ok (Some c.in_ok-action.action)) q c.render.new.glass (paste_by_text bytes d ∙ told.0)
+    (ap (λ (a : DisplayAction). Ok (Some a)) told.1) then
+    (subst (λ (s : Session). DrewTied cols row spare tied (drawn cols w s) f c.render.new.glass) then (both cols row spare tied {ks = drawn cols w (session q)} c.render.ensures.drew c.render.ensures.keeps)) in
+    record { one_call = plainly call; drew = drew_made call; keeps = kept_by call }
