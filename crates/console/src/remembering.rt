@@ -1,81 +1,53 @@
 // Reads a history, shows its drafts, edits them by a line of keys, and shows the history that would be written.
 use crate::editing::{press, print_draft, print_pressed};
-use crate::print_refusal;
 use draft::action::DisplayAction;
 use font::foyer::FoyerFont;
 use history::store::PromptHistory;
-use history::writing::{Written, write};
+use history::writing::write;
+use std::alloc::AllocGlobal;
+use std::rt::Files;
 use std::{fs, io};
-use text::refusal::Refusal;
+use transcript::fault::{CallError, Fault};
+use transcript::outcomes::{WRITTEN_BYTES, print_written};
+use transcript::reading::first_word;
 
 /// The columns for the text on a row of 40, which the drafts are edited on.
 const ROOM: usize = 25;
 
-/// The longest history that can be written: 31 lines of 1,024 bytes, each with its end.
-const WRITTEN_BYTES: usize = 31775;
-
-fn print_drafts(rt: &HostRuntime, history: &PromptHistory) -> io::Result<()> {
-    let count = history.count;
+fn print_drafts(rt: &impl Print, history: &PromptHistory) -> io::Result<()> {
+    let count = history.entries.len();
     println!(rt; "{count} drafts")?;
-    for draft in history.entries.iter().take(count) {
+    for draft in &history.entries {
         print!(rt; "  ")?;
         print_draft(rt, draft)?;
     }
     Ok(())
 }
 
-/// Presses a key on the draft in hand. None where the notation has no such key.
-fn press_in_hand(history: &mut PromptHistory, key: &str) -> Option<Result<DisplayAction, Refusal>> {
-    let i = history.active_index;
-    let entries = &mut history.entries;
-    press(&mut entries[i], key, ROOM)
-}
-
 /// Takes another draft in hand, or presses a key on the one in hand, and scrolls the draft that is in hand then.
-fn press_on(history: &mut PromptHistory, key: &str) -> Option<Result<DisplayAction, Refusal>> {
+fn press_on(history: &mut PromptHistory, key: &str) -> Result<DisplayAction, Fault> {
     let answer = match key {
-        "Up" | "^P" => Some(Ok(history.previous())),
-        "Down" | "^N" => Some(Ok(history.next())),
-        _ => press_in_hand(history, key),
+        "Up" | "^P" => Ok(history.previous()),
+        "Down" | "^N" => Ok(history.next()),
+        _ => press(history.state_mut(), key, ROOM),
     };
-    let i = history.active_index;
-    let entries = &mut history.entries;
-    entries[i].clamp_offset::<FoyerFont>(ROOM);
+    history.state_mut().clamp_offset::<FoyerFont>(ROOM);
     answer
 }
 
-fn print_written(rt: &HostRuntime, history: &PromptHistory, bytes: &[u8]) -> io::Result<()> {
-    let mut out = [0; WRITTEN_BYTES];
-    print!(rt; "  written: ")?;
-    match write(history.state(), bytes, &mut out) {
-        Ok(Written::NothingToAdd) => println!(rt; "nothing to add"),
-        Ok(Written::Bytes(len)) => {
-            println!(rt; "{len} bytes")?;
-            let text = String::from_utf8_lossy(rt.alloc(), &out[0..len])?;
-            for line in text.as_str().lines() {
-                println!(rt; "  | {line}")?;
-            }
-            Ok(())
-        }
-        Err(refusal) => print_refusal(rt, refusal),
-    }
-}
-
-/// Reads the history in a file, presses the keys, and prints every step and what would be written.
-pub fn recall(rt: &HostRuntime, path: &str, keys: &str) -> io::Result<()> {
+/// Reads the history in a file, presses the keys, and prints every step and what would be written: the file comes first.
+pub fn recall<R: Print + Files + AllocGlobal>(rt: &R, rest: &str) -> Result<(), CallError> {
+    let (path, keys) = first_word(rest);
     let bytes = fs::read(rt, path)?;
-    match PromptHistory::open(bytes.as_slice()) {
-        Ok(mut history) => {
-            print_drafts(rt, &history)?;
-            for key in keys.split_whitespace() {
-                print!(rt; "  {key} => ")?;
-                match press_on(&mut history, key) {
-                    Some(answer) => print_pressed(rt, history.state(), answer)?,
-                    None => println!(rt; "no such key")?,
-                }
-            }
-            print_written(rt, &history, bytes.as_slice())
-        }
-        Err(refusal) => print_refusal(rt, refusal),
+    let mut history = PromptHistory::open(bytes.as_slice())?;
+    print_drafts(rt, &history)?;
+    for key in keys.split_whitespace() {
+        print!(rt; "  {key} => ")?;
+        let answer = press_on(&mut history, key);
+        print_pressed(rt, history.state(), answer)?;
     }
+    let mut out = [0; WRITTEN_BYTES];
+    let written = write(history.state(), bytes.as_slice(), &mut out);
+    print_written(rt, written, &out)?;
+    Ok(())
 }

@@ -1,13 +1,7 @@
 // How a script writes keys.
-use prompt::keys::{KeyCode, Modifiers};
-
-/// A key as a prompt takes it: what is held with it, which it is, and the code of its character.
-#[derive(Clone, Copy)]
-pub struct Key {
-    pub modifiers: Modifiers,
-    pub key: KeyCode,
-    pub code: u32,
-}
+use prompt::keys::{KeyCode, KeyEvent, Modifiers};
+use transcript::fault::Fault;
+use transcript::reading::typed_code;
 
 fn named(name: &str) -> Option<KeyCode> {
     match name {
@@ -26,30 +20,14 @@ fn named(name: &str) -> Option<KeyCode> {
     }
 }
 
-/// The code that a word types: one character, `Space`, or `U+` and hexadecimal digits.
-fn code_of(word: &str) -> Option<u32> {
-    if word == "Space" {
-        return Some(0x20);
-    }
-    if let Some(digits) = word.strip_prefix("U+") {
-        return u32::from_str_radix(digits, 16).ok();
-    }
-    let mut chars = word.chars();
-    match (chars.next(), chars.next()) {
-        (Some(c), None) => Some(c as u32),
-        _ => None,
-    }
-}
-
-/// What is held, and the word after its mark: `^` for Ctrl, `M-` for Alt.
+/// What is held, and the word after its mark: `^` for Ctrl, `M-` for Alt. A `^` alone is itself.
 fn held(word: &str) -> (Modifiers, &str) {
-    if let Some(rest) = word.strip_prefix("^") {
-        return (Modifiers::Ctrl, rest);
+    let ctrl = word.strip_prefix('^').filter(|rest| !rest.is_empty());
+    match (ctrl, word.strip_prefix("M-")) {
+        (Some(rest), _) => (Modifiers::Ctrl, rest),
+        (None, Some(rest)) => (Modifiers::Alt, rest),
+        (None, None) => (Modifiers::None, word),
     }
-    if let Some(rest) = word.strip_prefix("M-") {
-        return (Modifiers::Alt, rest);
-    }
-    (Modifiers::None, word)
 }
 
 /// A letter that is written large after `^` is held small, as terminals do.
@@ -60,26 +38,12 @@ fn as_held(modifiers: Modifiers, code: u32) -> u32 {
     }
 }
 
-/// The key that a word stands for. None where the notation has no such key.
-pub fn key_of(word: &str) -> Option<Key> {
-    let (modifiers, name) = if word.len() == 1 {
-        (Modifiers::None, word)
-    } else {
-        held(word)
+/// The key that a word stands for.
+pub fn key_of(word: &str) -> Result<KeyEvent, Fault> {
+    let (modifiers, name) = held(word);
+    let key = match named(name) {
+        Some(key) => key,
+        None => KeyCode::Char(as_held(modifiers, typed_code(name)?)),
     };
-    if let Some(key) = named(name) {
-        return Some(Key {
-            modifiers,
-            key,
-            code: 0,
-        });
-    }
-    match code_of(name) {
-        Some(code) => Some(Key {
-            modifiers,
-            key: KeyCode::Char,
-            code: as_held(modifiers, code),
-        }),
-        None => None,
-    }
+    Ok(KeyEvent { key, modifiers })
 }

@@ -1,62 +1,33 @@
 // The booking console's prompt: reads a script from its standard input, one call to a line, and prints what each call did. The
-// README describes the script. A line that is empty or begins with # is passed over.
+// README describes the script.
 #![tactic(auto)]
 
 mod keys;
-mod rows;
 mod session;
 mod showing;
 
 use cells::cell_row::CellRow;
 use font::foyer::FoyerFont;
-use glass::Glass;
 use jump::goto::Jump;
 use prompt::state::Prompt;
 use session::{Asked, Session};
-use std::alloc::{AllocError, Global};
-use std::io::Read;
+use std::alloc::AllocGlobal;
+use std::rt::Files;
 use std::{fs, io};
 use text::refusal::Refusal;
+use transcript::fault::{CallError, Fault};
+use transcript::outcomes::print_jump;
+use transcript::reading;
+use transcript::script::{Console, run};
 
 /// The columns of the row on which a text is typed whole.
 const COLUMNS: usize = 40;
 
-/// The console: the length of the listing, and the session that is open, if one is.
+/// A console of sessions: the length of the listing, and the session that is open, if one is.
 #[derive(Drop)]
-struct Console {
+struct Sessions {
     lines: u64,
-    session: Option<Session>,
-}
-
-/// The bytes that words of two hexadecimal digits spell. None where a word is anything else.
-fn bytes_from_hex(heap: Global, words: &str) -> Result<Option<Vec<u8>>, AllocError> {
-    let mut bytes = Vec::new(heap);
-    for word in words.split_whitespace() {
-        match u8::from_str_radix(word, 16) {
-            Ok(byte) if word.len() == 2 => bytes.push(byte)?,
-            _ => return Ok(None),
-        }
-    }
-    Ok(Some(bytes))
-}
-
-pub(crate) fn print_refusal(rt: &HostRuntime, refusal: Refusal) -> io::Result<()> {
-    let number = refusal.number();
-    let layer = refusal.layer().name();
-    let words = refusal.words();
-    match refusal.place() {
-        Some(place) => println!(rt; "refused {number} ({layer}) at {place}: {words}"),
-        None => println!(rt; "refused {number} ({layer}): {words}"),
-    }
-}
-
-pub(crate) fn print_jump(rt: &HostRuntime, answer: Result<Jump, Refusal>) -> io::Result<()> {
-    match answer {
-        Ok(Jump::Quit) => println!(rt; "quit"),
-        Ok(Jump::Stay) => println!(rt; "stay"),
-        Ok(Jump::Line(line)) => println!(rt; "line {line}"),
-        Err(refusal) => print_refusal(rt, refusal),
-    }
+    open: Option<Session>,
 }
 
 /// A prompt of its own for one text: it is pasted, finished, and jumped by.
@@ -68,120 +39,103 @@ fn jump_by(bytes: &[u8], lines: u64) -> Result<Jump, Refusal> {
 }
 
 /// Opens a session: the width of the row comes first, and then the file of the history, if there is one.
-fn open(rt: &HostRuntime, rest: &str) -> io::Result<Option<Session>> {
-    let (width, path) = rest.split_once(' ').unwrap_or((rest, ""));
-    let Ok(width) = width.parse::<usize>() else {
-        println!(rt; "not a width")?;
-        return Ok(None);
-    };
+fn open<R: Print + Files + AllocGlobal>(rt: &R, rest: &str) -> Result<Session, CallError> {
+    let (width, path) = reading::first_word(rest);
+    let width = reading::width(width)?;
     let history = if path.is_empty() {
         Vec::new(rt.alloc())
     } else {
         fs::read(rt, path)?
     };
-    match session::open(rt, width, history)? {
-        Ok(session) => {
-            println!(rt; "opened")?;
-            Ok(Some(session))
-        }
-        Err(refusal) => {
-            print_refusal(rt, refusal)?;
-            Ok(None)
-        }
-    }
+    let session = Session::open(rt.alloc(), width, history)?;
+    println!(rt; "opened")?;
+    Ok(session)
 }
 
 /// Presses the keys one after another.
-fn press(rt: &HostRuntime, session: &mut Session, words: &str) -> io::Result<()> {
+fn press(rt: &impl Print, session: &mut Session, words: &str) -> io::Result<()> {
     println!(rt)?;
     for word in words.split_whitespace() {
         print!(rt; " {word} => ")?;
         match keys::key_of(word) {
-            Some(key) => session.make(rt, Asked::Press(key))?,
-            None => println!(rt; "no such key")?,
+            Ok(key) => session.make(rt, Asked::Press(key))?,
+            Err(fault) => println!(rt; "{fault}")?,
         }
     }
     Ok(())
 }
 
 /// A call of the session that is open.
-fn call(rt: &HostRuntime, session: &mut Session, verb: &str, rest: &str) -> io::Result<()> {
+fn call<R: Print + AllocGlobal>(
+    rt: &R,
+    session: &mut Session,
+    verb: &str,
+    rest: &str,
+) -> Result<(), CallError> {
     match verb {
-        "draw" => session.make(rt, Asked::Draw),
-        "press" => press(rt, session, rest),
-        "paste" => match bytes_from_hex(rt.alloc(), rest)? {
-            Some(bytes) => session.make(rt, Asked::Paste(bytes)),
-            None => println!(rt; "not bytes in hexadecimal"),
-        },
-        "resize" => match rest.parse::<usize>() {
-            Ok(width) => session.make(rt, Asked::Resize(width)),
-            Err(_) => println!(rt; "not a width"),
-        },
-        "record" => session.record(rt),
-        _ => println!(rt; "not understood"),
-    }
-}
-
-impl Console {
-    /// A line that stands for itself, outside of sessions.
-    fn single(&mut self, rt: &HostRuntime, verb: &str, rest: &str) -> io::Result<()> {
-        match verb {
-            "listing" => match rest.parse::<u64>() {
-                Ok(count) => {
-                    self.lines = count;
-                    println!(rt; "{count} lines")
-                }
-                Err(_) => println!(rt; "not a number of lines"),
-            },
-            "type" => print_jump(rt, jump_by(rest.as_bytes(), self.lines)),
-            "bytes" => match bytes_from_hex(rt.alloc(), rest)? {
-                Some(bytes) => print_jump(rt, jump_by(bytes.as_slice(), self.lines)),
-                None => println!(rt; "not bytes in hexadecimal"),
-            },
-            "both" => match rest.parse::<usize>() {
-                Ok(width) => showing::show(rt, width),
-                Err(_) => println!(rt; "not a width"),
-            },
-            "open" => {
-                self.session = open(rt, rest)?;
-                Ok(())
-            }
-            _ => println!(rt; "not understood"),
-        }
-    }
-
-    /// Does what one line of the script says.
-    fn perform(&mut self, rt: &HostRuntime, line: &str) -> io::Result<()> {
-        print!(rt; "{line} => ")?;
-        let (verb, rest) = line.split_once(' ').unwrap_or((line, ""));
-        match self.session.take() {
-            None => self.single(rt, verb, rest),
-            Some(session) if verb == "finish" => session.finish(rt, self.lines),
-            Some(_) if verb == "cancel" => println!(rt; "cancelled"),
-            Some(mut session) => {
-                let end = call(rt, &mut session, verb, rest);
-                self.session = Some(session);
-                end
-            }
-        }
-    }
-}
-
-fn read_script(rt: &HostRuntime) -> anyhow::Result<()> {
-    let mut script = String::new(rt.alloc());
-    let _ = rt.stdin().read_to_string(&mut script)?;
-    let mut console = Console {
-        lines: 0,
-        session: None,
-    };
-    for line in script.as_str().lines() {
-        if !line.is_empty() && !line.starts_with('#') {
-            console.perform(rt, line)?;
-        }
+        "draw" => session.make(rt, Asked::Draw)?,
+        "press" => press(rt, session, rest)?,
+        "paste" => session.make(rt, Asked::Paste(reading::bytes(rt.alloc(), rest)?))?,
+        "resize" => session.make(rt, Asked::Resize(reading::width(rest)?))?,
+        "record" => session.record(rt)?,
+        _ => return Err(Fault::NotUnderstood.into()),
     }
     Ok(())
 }
 
+impl Sessions {
+    /// A line that stands for itself, outside of sessions.
+    // The console of single parts has the first three verbs too, but it jumps without a prompt.
+    fn single<R: Print + Files + AllocGlobal>(
+        &mut self,
+        rt: &R,
+        verb: &str,
+        rest: &str,
+    ) -> Result<(), CallError> {
+        match verb {
+            "listing" => {
+                self.lines = reading::number_of_lines(rest)?;
+                println!(rt; "{} lines", self.lines)?;
+            }
+            "type" => print_jump(rt, jump_by(rest.as_bytes(), self.lines)?)?,
+            "bytes" => {
+                let bytes = reading::bytes(rt.alloc(), rest)?;
+                print_jump(rt, jump_by(bytes.as_slice(), self.lines)?)?;
+            }
+            "both" => showing::show(rt, reading::width(rest)?)?,
+            "open" => self.open = Some(open(rt, rest)?),
+            _ => return Err(Fault::NotUnderstood.into()),
+        }
+        Ok(())
+    }
+}
+
+impl Console for Sessions {
+    fn perform<R: Print + Files + AllocGlobal>(
+        &mut self,
+        rt: &R,
+        verb: &str,
+        rest: &str,
+    ) -> Result<(), CallError> {
+        match self.open.take() {
+            None => self.single(rt, verb, rest)?,
+            Some(session) if verb == "finish" => session.finish(rt, self.lines)?,
+            Some(_) if verb == "cancel" => println!(rt; "cancelled")?,
+            Some(mut session) => {
+                let end = call(rt, &mut session, verb, rest);
+                self.open = Some(session);
+                end?;
+            }
+        }
+        Ok(())
+    }
+}
+
 fn main(rt: HostRuntime) -> anyhow::Result<()> {
-    read_script(&rt)
+    let mut sessions = Sessions {
+        lines: 0,
+        open: None,
+    };
+    run(&rt, &mut sessions)?;
+    Ok(())
 }

@@ -1,60 +1,34 @@
-// One drawing made by hand, on both glasses under the foyer font.
-use crate::print_refusal;
-use crate::rows::{front, print_hex, print_row};
+// What rows and records look like here, and one drawing made by hand on both glasses, under the foyer font.
+use cells::cell_row::CellRow;
 use font::foyer::FoyerFont;
-use glass::PenChange;
-use glass::calls::{Call, Stopped};
-use mirror::draw_both;
 use std::io;
+use transcript::by_hand::{RECORD_BYTES, draw_by_hand};
+use transcript::fault::CallError;
+use transcript::outcomes::print_end;
+use transcript::showing::{Cells, Hex, Pens, front};
 
-/// The bytes that a drawing is recorded in.
-const RECORD_BYTES: usize = 256;
+/// Prints the row, and below it the pens and the cursor.
+pub fn print_row(rt: &impl Print, row: &CellRow<FoyerFont>) -> io::Result<()> {
+    println!(rt; "  [{}]", Cells(row))?;
+    println!(rt; "  [{}]", Pens(row))
+}
 
-/// The line of the screen that the record names.
-const LINE: u16 = 24;
-
-/// "Seat: "
-const LABEL: [u32; 6] = [0x53, 0x65, 0x61, 0x74, 0x3A, 0x20];
-
-/// A letter, the acute accent that joins it, a wide character, and a digit.
-const SEAT: [u32; 4] = [0x65, 0x301, 0x5EA7, 0x37];
-
-/// "<09>", as a label is shown: reversed.
-const TAB: [u32; 4] = [0x3C, 0x30, 0x39, 0x3E];
-
-fn print_end(rt: &HostRuntime, end: Result<(), Stopped>) -> io::Result<()> {
-    match end {
-        Ok(()) => Ok(()),
-        Err(stopped) => {
-            let made = stopped.made;
-            print!(rt; "  after {made} calls ")?;
-            print_refusal(rt, stopped.refusal)
-        }
+/// Prints bytes in hexadecimal, 24 to a line.
+pub fn print_record(rt: &impl Print, bytes: &[u8]) -> io::Result<()> {
+    for part in bytes.chunks(24) {
+        println!(rt; " {}", Hex(part))?;
     }
+    Ok(())
 }
 
 /// Draws by hand on a cell row and a recorder of one width, and prints what both hold.
-pub fn show(rt: &HostRuntime, width: usize) -> io::Result<()> {
-    let calls = [
-        Call::Pen(PenChange::Prompt),
-        Call::Place(0),
-        Call::Text(&LABEL),
-        Call::Text(&SEAT),
-        Call::Pen(PenChange::ReverseOn),
-        Call::Text(&TAB),
-        Call::Pen(PenChange::Plain),
-        Call::Clear,
-        Call::Place(9),
-    ];
+pub fn show(rt: &impl Print, width: usize) -> Result<(), CallError> {
     let mut buffer = [0; RECORD_BYTES];
-    match draw_both::<FoyerFont>(LINE, width, &calls, &mut buffer) {
-        Ok(both) => {
-            println!(rt; "drawn")?;
-            print_row(rt, &both.cells)?;
-            print_end(rt, both.drawn)?;
-            print_hex(rt, front(&buffer, both.used))?;
-            print_end(rt, both.recorded)
-        }
-        Err(refusal) => print_refusal(rt, refusal),
-    }
+    let both = draw_by_hand::<FoyerFont>(width, &mut buffer)?;
+    println!(rt; "drawn")?;
+    print_row(rt, &both.cells)?;
+    print_end(rt, both.drawn)?;
+    print_record(rt, front(&buffer, both.used))?;
+    print_end(rt, both.recorded)?;
+    Ok(())
 }

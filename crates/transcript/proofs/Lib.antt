@@ -1,0 +1,3 @@
+mod Rows
+mod Words
+mod Written

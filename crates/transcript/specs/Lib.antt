@@ -1,0 +1,4 @@
+pub mod Faults
+pub mod Reading
+pub mod Showing
+pub mod ByHand
