@@ -7,7 +7,7 @@ use crate::measure::LONGEST_LABEL;
 pub mod spelling;
 
 /// A label: the first `len` of `chars`, each a character of 20 to 7E.
-// An array with its length beside it, and no `ArrayVec`: a label is Copy.
+// An array with its length beside it, no `ArrayVec` and no model: a label is Copy.
 #[derive(Clone, Copy)]
 pub struct Label {
     chars: [u32; LONGEST_LABEL],

@@ -1,14 +1,14 @@
 // Hexadecimal digits, in uppercase.
-ghost use Rattle.std.specs.Prelude.{◌≡◌, ◌<◌};
+ghost use Rattle.std.specs.Prelude.{◌≡◌, ◌%◌};
 ghost use Rattle.text.specs.Hex.{hex_digit};
 
-/// The digit of a value below 16, as a character of ASCII.
+/// The digit of the last four bits of a value, as a character of ASCII.
 pub fn hex_digit(value: u8) -> u8
-    requires below_sixteen { value < 16 }
-    ensures value { result ≡ hex_digit value }
+    ensures value { result ≡ hex_digit (value % 16) }
 {
-    match value {
-        0..=9 => b'0' + value,
-        _ => b'A' + (value - 10),
+    let digit = value % 16;
+    match digit {
+        0..=9 => b'0' + digit,
+        _ => b'A' + (digit - 10),
     }
 }

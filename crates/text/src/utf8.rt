@@ -84,6 +84,8 @@ pub fn count(bytes: &[u8]) -> Result<usize, Refusal>
     Ok(text_of(bytes)?.chars().count())
 }
 
+// The buffer of `decode` and `encode` is lent, so how much of it was written is told beside it.
+
 /// Writes the characters of well-formed bytes to the front of `out`, as far as it has room, and tells how many there are.
 /// Refused as `count` is. The bytes are read through before anything is written, so that a refusal leaves `out` as it was.
 #[tactic(auto, using(std::proofs::lemmas::Str::chars_from_encodes, crate::proofs::Readings::counted_of_utf8, crate::proofs::Readings::spelled_of_utf8))]
