@@ -2,7 +2,7 @@
 use draft::action::DisplayAction;
 use draft::state::PromptState;
 use font::foyer::FoyerFont;
-use std::io;
+use std::{fmt, io};
 use transcript::fault::{CallError, Fault};
 use transcript::reading::{first_word, typed_code, width};
 use transcript::showing::Readable;
@@ -48,12 +48,21 @@ pub fn press(draft: &mut PromptState, key: &str, room: usize) -> Result<DisplayA
     action.map_or_else(|| insert(draft, key, room), Ok)
 }
 
-pub fn print_draft(rt: &impl Print, draft: &PromptState) -> io::Result<()> {
-    let text = Readable::<FoyerFont>::new(draft.as_slice());
-    let place = draft.position();
-    let offset = draft.offset();
-    let column = TEXT_START.saturating_add(draft.cursor_position::<FoyerFont>());
-    println!(rt; "[{text}] place {place}, offset {offset}, column {column}")
+/// A draft as a person reads it: its text, its place and offset, and the column of the cursor.
+#[derive(Drop)]
+pub struct Shown<'a>(pub &'a PromptState);
+
+impl fmt::Display for Shown<'_> {
+    fn fmt<W: fmt::Write>(&self, f: &mut fmt::Formatter<W>) -> fmt::Result {
+        let text = Readable::<FoyerFont>::new(self.0.as_slice());
+        let place = self.0.position();
+        let offset = self.0.offset();
+        let column = TEXT_START.saturating_add(self.0.cursor_position::<FoyerFont>());
+        write!(
+            f,
+            "[{text}] place {place}, offset {offset}, column {column}"
+        )
+    }
 }
 
 /// Prints what a key came to, and the draft that it left.
@@ -63,10 +72,7 @@ pub fn print_pressed(
     answer: Result<DisplayAction, Fault>,
 ) -> io::Result<()> {
     match answer {
-        Ok(action) => {
-            print!(rt; "{action:?} ")?;
-            print_draft(rt, draft)
-        }
+        Ok(action) => println!(rt; "{action:?} {}", Shown(draft)),
         Err(fault) => println!(rt; "{fault}"),
     }
 }

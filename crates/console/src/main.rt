@@ -15,7 +15,7 @@ use std::rt::Files;
 use text::refusal::Refusal;
 use text::utf8;
 use transcript::fault::{CallError, Fault};
-use transcript::outcomes::print_jump;
+use transcript::outcomes::Destination;
 use transcript::reading;
 use transcript::script::{Console, run};
 
@@ -26,6 +26,7 @@ const MOST_CHARACTERS: usize = 256;
 fn jump_by(bytes: &[u8], lines: u64) -> Result<Jump, Refusal>
     ensures value { result ≡ typed_jump bytes.now lines }
 {
+    // `decode` writes to a lent buffer, and tells beside it how much.
     let mut chars = [0; MOST_CHARACTERS];
     let count = utf8::decode(bytes, &mut chars)?;
     if count > MOST_CHARACTERS {
@@ -47,15 +48,16 @@ impl Console for Parts {
         verb: &str,
         rest: &str,
     ) -> Result<(), CallError> {
+        // The verb is a word of the script.
         match verb {
             "listing" => {
                 self.lines = reading::number_of_lines(rest)?;
                 println!(rt; "{} lines", self.lines)?;
             }
-            "type" => print_jump(rt, jump_by(rest.as_bytes(), self.lines)?)?,
+            "type" => rt.println(Destination(jump_by(rest.as_bytes(), self.lines)?))?,
             "paste" => {
                 let bytes = reading::bytes(rt.alloc(), rest)?;
-                print_jump(rt, jump_by(bytes.as_slice(), self.lines)?)?;
+                rt.println(Destination(jump_by(bytes.as_slice(), self.lines)?))?;
             }
             "edit" => editing::edit(rt, rest)?,
             "draw" => showing::show(rt, reading::width(rest)?)?,

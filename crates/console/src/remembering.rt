@@ -1,5 +1,5 @@
 // Reads a history, shows its drafts, edits them by a line of keys, and shows the history that would be written.
-use crate::editing::{press, print_draft, print_pressed};
+use crate::editing::{Shown, press, print_pressed};
 use draft::action::DisplayAction;
 use font::foyer::FoyerFont;
 use history::store::PromptHistory;
@@ -18,8 +18,7 @@ fn print_drafts(rt: &impl Print, history: &PromptHistory) -> io::Result<()> {
     let count = history.entries.len();
     println!(rt; "{count} drafts")?;
     for draft in &history.entries {
-        print!(rt; "  ")?;
-        print_draft(rt, draft)?;
+        println!(rt; "  {}", Shown(draft))?;
     }
     Ok(())
 }

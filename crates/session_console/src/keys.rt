@@ -3,6 +3,7 @@ use prompt::keys::{KeyCode, KeyEvent, Modifiers};
 use transcript::fault::Fault;
 use transcript::reading::typed_code;
 
+// A function, and no `FromStr`: the code is the prompt's type.
 fn named(name: &str) -> Option<KeyCode> {
     match name {
         "Enter" => Some(KeyCode::Enter),
@@ -37,6 +38,8 @@ fn as_held(modifiers: Modifiers, code: u32) -> u32 {
         _ => code,
     }
 }
+
+// A function, and no `FromStr`: the key is the prompt's type.
 
 /// The key that a word stands for.
 pub fn key_of(word: &str) -> Result<KeyEvent, Fault> {

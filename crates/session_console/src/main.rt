@@ -16,7 +16,7 @@ use std::rt::Files;
 use std::{fs, io};
 use text::refusal::Refusal;
 use transcript::fault::{CallError, Fault};
-use transcript::outcomes::print_jump;
+use transcript::outcomes::Destination;
 use transcript::reading;
 use transcript::script::{Console, run};
 
@@ -72,6 +72,7 @@ fn call<R: Print + AllocGlobal>(
     verb: &str,
     rest: &str,
 ) -> Result<(), CallError> {
+    // The verb is a word of the script.
     match verb {
         "draw" => session.make(rt, Asked::Draw)?,
         "press" => press(rt, session, rest)?,
@@ -92,15 +93,16 @@ impl Sessions {
         verb: &str,
         rest: &str,
     ) -> Result<(), CallError> {
+        // The verb is a word of the script.
         match verb {
             "listing" => {
                 self.lines = reading::number_of_lines(rest)?;
                 println!(rt; "{} lines", self.lines)?;
             }
-            "type" => print_jump(rt, jump_by(rest.as_bytes(), self.lines)?)?,
+            "type" => rt.println(Destination(jump_by(rest.as_bytes(), self.lines)?))?,
             "bytes" => {
                 let bytes = reading::bytes(rt.alloc(), rest)?;
-                print_jump(rt, jump_by(bytes.as_slice(), self.lines)?)?;
+                rt.println(Destination(jump_by(bytes.as_slice(), self.lines)?))?;
             }
             "both" => showing::show(rt, reading::width(rest)?)?,
             "open" => self.open = Some(open(rt, rest)?),

@@ -10,10 +10,10 @@ use prompt::state::Prompt;
 use recorder::recorder::Recorder;
 use recorder::recorder::making::can_record;
 use std::alloc::{AllocGlobal, Global};
-use std::io;
+use std::{fmt, io};
 use text::refusal::Refusal;
-use transcript::fault::CallError;
-use transcript::outcomes::{WRITTEN_BYTES, print_jump, print_refusal, print_written};
+use transcript::fault::{CallError, Fault};
+use transcript::outcomes::{Destination, WRITTEN_BYTES, print_written};
 use transcript::showing::{Readable, front};
 
 /// The label of the prompt.
@@ -34,9 +34,9 @@ pub enum Asked {
     Resize(usize),
 }
 
-impl Asked {
-    fn call(&self) -> Call<'_> {
-        match self {
+impl<'a> From<&'a Asked> for Call<'a> {
+    fn from(asked: &'a Asked) -> Call<'a> {
+        match asked {
             Asked::Draw => Call::Draw,
             Asked::Press(event) => Call::Key(*event),
             Asked::Paste(bytes) => Call::Paste(bytes.as_slice()),
@@ -55,11 +55,17 @@ pub struct Session {
     asked: Vec<(Asked, Reply)>,
 }
 
-fn print_reply(rt: &impl Print, reply: Reply) -> io::Result<()> {
-    match reply {
-        Ok(None) => println!(rt; "done"),
-        Ok(Some(action)) => println!(rt; "{action:?}"),
-        Err(refusal) => print_refusal(rt, refusal),
+/// A reply as a person reads it.
+#[derive(Clone, Copy)]
+struct Answer(Reply);
+
+impl fmt::Display for Answer {
+    fn fmt<W: fmt::Write>(&self, f: &mut fmt::Formatter<W>) -> fmt::Result {
+        match self.0 {
+            Ok(None) => write!(f, "done"),
+            Ok(Some(action)) => write!(f, "{action:?}"),
+            Err(refusal) => write!(f, "{}", Fault::Refused(refusal)),
+        }
     }
 }
 
@@ -82,9 +88,9 @@ impl Session {
     pub fn make(&mut self, rt: &impl Print, asked: Asked) -> io::Result<()> {
         let prompt = &mut self.prompt;
         let row = &mut self.row;
-        let reply = prompt.perform(row, asked.call());
+        let reply = prompt.perform(row, Call::from(&asked));
         self.asked.push((asked, reply))?;
-        print_reply(rt, reply)?;
+        rt.println(Answer(reply))?;
         print_row(rt, &self.row)
     }
 
@@ -96,7 +102,7 @@ impl Session {
         let written = finished.write_history(self.history.as_slice(), &mut out);
         print_written(rt, written, &out)?;
         print!(rt; "  jump: ")?;
-        print_jump(rt, finished.jump(lines)?)?;
+        rt.println(Destination(finished.jump(lines)?))?;
         Ok(())
     }
 
@@ -106,7 +112,7 @@ impl Session {
         let calls: Vec<Call> = self
             .asked
             .iter()
-            .map(|(asked, _)| asked.call())
+            .map(|(asked, _)| Call::from(asked))
             .collect(alloc)?;
         let mut replies = vec![in alloc; Ok(None); calls.len()]?;
         let mut bytes = vec![in alloc; 0; RECORD_BYTES]?;

@@ -1,26 +1,35 @@
 // What calls came to, printed.
+ghost use Rattle.std.specs.Prelude.{Some};
+ghost use Rattle.transcript.specs.Outcomes.{destination_text};
+
 use crate::fault::Fault;
 use crate::showing::front;
 use glass::calls::Stopped;
 use jump::goto::Jump;
 use std::alloc::AllocGlobal;
-use std::io;
+use std::{fmt, io};
 use text::refusal::Refusal;
 
 /// The longest history that can be written: 31 lines of 1,024 bytes, each with its end.
 pub const WRITTEN_BYTES: usize = 31775;
 
-pub fn print_refusal(rt: &impl Print, refusal: Refusal) -> io::Result<()> {
-    rt.println(Fault::Refused(refusal))
-}
+/// Where a jump goes, as a person reads it.
+#[derive(Clone, Copy)]
+pub struct Destination(pub Jump);
 
-pub fn print_jump(rt: &impl Print, jump: Jump) -> io::Result<()> {
-    match jump {
-        Jump::Quit => println!(rt; "quit"),
-        Jump::Stay => println!(rt; "stay"),
-        Jump::Line(line) => println!(rt; "line {line}"),
+impl fmt::Display for Destination {
+    ghost output = { λ d. Some (destination_text d.0) };
+
+    fn fmt<W: fmt::Write>(&self, f: &mut fmt::Formatter<W>) -> fmt::Result {
+        match self.0 {
+            Jump::Quit => write!(f, "quit"),
+            Jump::Stay => write!(f, "stay"),
+            Jump::Line(line) => write!(f, "line {line}"),
+        }
     }
 }
+
+// A function, and no type with a `Display`: where the calls came to their end there is no line at all.
 
 /// Prints where a list of calls came to a stop, if it did.
 pub fn print_end(rt: &impl Print, end: Result<(), Stopped>) -> io::Result<()> {
@@ -32,6 +41,8 @@ pub fn print_end(rt: &impl Print, end: Result<(), Stopped>) -> io::Result<()> {
         }
     }
 }
+
+// A function, and no type with a `Display`: bytes that are no text are printed by way of memory, which may fail.
 
 /// Prints what history writing came to, and the lines that it wrote to a buffer.
 pub fn print_written<R: Print + AllocGlobal>(
@@ -50,6 +61,6 @@ pub fn print_written<R: Print + AllocGlobal>(
             }
             Ok(())
         }
-        Err(refusal) => print_refusal(rt, refusal),
+        Err(refusal) => rt.println(Fault::Refused(refusal)),
     }
 }
