@@ -13,6 +13,7 @@ pub const CAPACITY: usize = 256;
 /// The columns that scrolling keeps in sight on the left of the cursor, and free on the right of it.
 pub const MARGIN: usize = 5;
 
+// No model: a refused call leaves the whole array as it was, and a view of the text would forget what lies past it.
 /// A line of text with the place of the cursor in it, and the offset from which it is shown.
 #[derive(Clone, Copy)]
 pub struct PromptState {

@@ -4,6 +4,7 @@ ghost use Rattle.std.proofs.Common.{rules};
 
 use font::{Columns, Font};
 
+// The values of the tests here stand on these ranges, and those of the glasses' tests on others.
 /// ASCII in one column, accents in none, ideographs in two, and labels for all else.
 pub struct SampleFont;
 

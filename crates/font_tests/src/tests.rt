@@ -54,12 +54,12 @@ fn counter_edges(rt: HostRuntime) {
 /// Whether the label of `code` is `text`.
 fn is_spelled(code: u32, text: &str) -> bool {
     let label = Label::of(code);
-    for (shown, wanted) in label.as_slice().iter().zip(text.bytes()) {
-        if *shown != u32::from(wanted) {
-            return false;
-        }
-    }
     label.len() == text.len()
+        && label
+            .as_slice()
+            .iter()
+            .copied()
+            .eq(text.bytes().map(u32::from))
 }
 
 #[test]

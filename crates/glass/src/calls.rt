@@ -29,6 +29,7 @@ pub fn perform<G: Glass>(glass: &mut G, call: Call<'_>) -> Result<(), Refusal>
     ensures obeys { Obeys G.Font.Font.columns G.Glass.row G.Glass.spare (call_of call.entry) glass.old result glass.new }
     ensures keeps { StaysTied (accepted (call_of call.entry) result) (G.Glass.tied glass.old) (G.Glass.tied glass.new) }
 {
+    // A list of calls is data, of which the row is a fold.
     match call {
         Call::Place(column) => glass.place(column),
         Call::Pen(change) => glass.pen(change),

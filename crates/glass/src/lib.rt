@@ -56,6 +56,9 @@ pub const PLAIN: Pen = Pen {
     reversed: false,
 };
 
+// What is said of a glass takes its font's columns, its row and its spare one by one, so that it holds of any value that has a row,
+// as bytes that are read back; a record of the three would be made anew in each clause.
+
 /// A row that can be drawn on. A refused call leaves the glass as it was; any other does to the row what `apply` says,
 /// and lowers the spare by its cost at most.
 pub trait Glass {

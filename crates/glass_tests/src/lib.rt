@@ -6,6 +6,7 @@ ghost use Rattle.std.proofs.Common.{rules};
 
 use font::{Columns, Font};
 
+// The values of the tests here stand on these ranges, and those of the drafts' tests on others.
 /// A small font for trials.
 pub struct Trial;
 

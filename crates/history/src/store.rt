@@ -15,6 +15,7 @@ pub const LONGEST_HISTORY: usize = 65536;
 /// The drafts that a session holds at most: 31 that are remembered, and a new one.
 pub const MOST_DRAFTS: usize = 32;
 
+// No model: a host reads its fields, and a view of the drafts would forget what lies past their texts.
 /// The drafts of a session, of which one is in hand.
 #[derive(Drop)]
 pub struct PromptHistory {

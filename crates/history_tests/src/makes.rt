@@ -57,16 +57,8 @@ pub fn steps_back(history: &mut PromptHistory) -> usize {
 
 /// Whether the draft in hand has these ASCII characters.
 pub fn reads(history: &PromptHistory, text: &[u8]) -> bool {
-    let chars = history.state().as_slice();
-    if chars.len() != text.len() {
-        return false;
-    }
-    for (i, b) in text.iter().enumerate() {
-        if chars[i] != u32::from(*b) {
-            return false;
-        }
-    }
-    true
+    let chars = history.state().as_slice().iter().copied();
+    chars.eq(text.iter().map(|b| u32::from(*b)))
 }
 
 /// Whether so many lines are remembered.

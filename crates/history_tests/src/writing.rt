@@ -5,22 +5,16 @@ use std::process::Abort;
 use std::test::Fail;
 use text::refusal::Refusal;
 
-fn same(bytes: &[u8], expected: &[u8]) -> bool {
-    bytes == expected
-}
-
 /// Whether writing a draft gives these bytes, and leaves the others of the buffer.
 fn writes(rt: &impl Abort, text: &[u32], history: &[u8], bytes: &[u8]) -> Result<(), Fail> {
     let mut out = [0xEE; 64];
     let written = write(&typed(text)?, history, &mut out)?;
     assert_eq!(rt; written, Some(bytes.len()));
-    let Some(front) = out.get(0..bytes.len()) else {
+    let Some((front, rest)) = out.split_at_checked(bytes.len()) else {
         return Err(Fail::new("too many bytes"));
     };
     assert!(rt; front == bytes);
-    for (i, b) in out.iter().enumerate() {
-        assert!(rt; i < bytes.len() || *b == 0xEE);
-    }
+    assert!(rt; rest.iter().all(|b| *b == 0xEE));
     Ok(())
 }
 
@@ -66,8 +60,8 @@ fn thirty_lines_are_kept(rt: HostRuntime) -> Result<(), Fail> {
         write(&typed(&[0x62])?, history.as_slice(), &mut out)?,
         Some(152)
     );
-    assert!(rt; same(&out[0..5], b"0001\n"));
-    assert!(rt; same(&out[145..153], b"0030\nb\n\xEE"));
+    assert!(rt; out[0..5] == b"0001\n"[..]);
+    assert!(rt; out[145..153] == b"0030\nb\n\xEE"[..]);
     Ok(())
 }
 

@@ -20,10 +20,13 @@ use text::refusal::Refusal;
 #[derive(Drop)]
 pub struct Mirrored<F> {
     pub cells: CellRow<F>,
+    // The buffer is lent: how much of it is in use is told beside it.
     pub used: usize,
     pub drawn: Result<(), Stopped>,
     pub recorded: Result<(), Stopped>,
 }
+
+// The two functions below take the same four things, as a host has them: a struct of them would be made for one call.
 
 /// Makes a cell row and a recorder of one width, and performs the same calls on both.
 #[tactic(auto, using(crate::proofs::Ends::answer_allows))]

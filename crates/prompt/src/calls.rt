@@ -128,6 +128,7 @@ impl Prompt {
         ensures after { OnOk result (session self.new ≡ after_operation F.Font.columns width operation (session self.old)) }
         ensures unchanged_if_refused { OnErr result (self.new ≡ self.old) }
     {
+        // Which operation it is comes as data, with a key.
         match operation {
             Operation::Finish => Ok(DisplayAction::Finish),
             Operation::Cancel => Ok(DisplayAction::Cancel),
@@ -159,6 +160,7 @@ impl Prompt {
         ensures drew { Drew G.Font.Font.columns G.Glass.row G.Glass.spare (calls_by action operation (drawn G.Font.Font.columns width (session self.now))) glass.old glass.new }
         ensures keeps { StaysTied (calls_by action operation (drawn G.Font.Font.columns width (session self.now))) (G.Glass.tied glass.old) (G.Glass.tied glass.new) }
     {
+        // What is to be shown comes as data, from the draft.
         match (action, operation) {
             (DisplayAction::Letter, Operation::Edit(Edit::Insert(code))) => {
                 sure::perform(glass, Call::Text(&[code]));

@@ -10,6 +10,8 @@ use draft::state::PromptState;
 use font::Font;
 use text::refusal::Refusal;
 
+// Which edit it is comes as data, with a key: each match here names each case once.
+
 fn remove(draft: &mut PromptState, removal: Removal) -> DisplayAction
     ensures after { draft_of draft.new ≡ removing (removes_to removal) (draft_of draft.old) }
     ensures answer_is { result ≡ answer_by (removes_to removal) (draft_of draft.old) }

@@ -12,6 +12,8 @@ pub mod writing;
 /// The most bytes that a recorder uses.
 pub const MOST_BYTES: usize = 65536;
 
+// No model: its contracts name the lent buffer itself, which its maker reads afterwards.
+
 /// A glass that is a log: a version byte, then a record for each call. The log stands in the first `used` bytes of the
 /// lent buffer, and no more than `limit` are ever used. One that was made in spite of a refusal has a limit of 0.
 /// Its bytes are exactly what the calls that they read as are written as, and its width is the one that they make.

@@ -1,4 +1,5 @@
-// How cells are filled and marked. None of this is refused: the calls have seen to that.
+// How cells are filled and marked. None of this is refused: the calls have seen to that. Each function says by how much the number of
+// marks may grow, since a text adds these up.
 ghost use Rattle.std.specs.Prelude.{◌≡◌, ◌+◌, ◌<◌, ◌≤◌, length, IfSome, slice_set};
 ghost use Rattle.arrayvec.specs.ArrayVec.{array_vec_len};
 ghost use Rattle.font.specs.declared.Columns.TheVariants.{Zero};

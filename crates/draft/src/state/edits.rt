@@ -124,6 +124,8 @@ impl PromptState {
         self.insert_str(text)
     }
 
+    // The removals and the motions below go by the original's names. Each is a line over `remove_to` or `move_to`.
+
     /// Deletes the character before the place.
     pub fn delete_prev_char(&mut self) -> DisplayAction
         ensures after { draft_of self.new ≡ removing prev_char (draft_of self.old) }

@@ -20,6 +20,7 @@ impl Prompt {
         ensures drew { Drew G.Font.Font.columns G.Glass.row G.Glass.spare (calls_made G.Font.Font.columns G.Glass.row G.Glass.spare (request call.entry) self.old glass.old) glass.old glass.new }
         ensures keeps { StaysTied (calls_made G.Font.Font.columns G.Glass.row G.Glass.spare (request call.entry) self.old glass.old) (G.Glass.tied glass.old) (G.Glass.tied glass.new) }
     {
+        // A list of calls is data: a host records it, and replays it.
         match call {
             Call::Draw => self.draw(glass).map(|()| None),
             Call::Key(event) => self.key(glass, event).map(Some),
