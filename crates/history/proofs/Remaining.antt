@@ -1,10 +1,8 @@
 -- Lines that are read one after another, and those of them that are readable.
-use Rattle.std.proofs.Common.{◌≡◌, ℕ, suc, ◌+◌, ◌-◌, ◌<◌, ◌≤◌, Bool, true, false, eqb, List, [], ◌∷◌, ◌++◌, map, length, get_or, take, drop, IfSome, Some, None, Option, filter, sym, ap, ◌∙◌, subst, arith}
-use denote.Param.Members.{Mut}
+use Rattle.std.proofs.Common.{◌≡◌, ℕ, suc, ◌+◌, ◌-◌, ◌<◌, ◌≤◌, true, false, eqb, List, [], ◌∷◌, ◌++◌, map, length, get_or, take, drop, Some, None, Option, filter, sym, ap, ◌∙◌, subst, arith}
 use denote.Ref.{Bor}
-use Rattle.std.specs.Fn.{CalledAt}
-use Rattle.std.specs.List.{FoldsTo, AllByRecursion}
-use Rattle.std.specs.Iterator.{YieldsFirstRef, YieldsThen, Drains, MakesProgress, item_count}
+use Rattle.std.specs.List.{AllByRecursion}
+use Rattle.std.specs.Iterator.{YieldsFirstRef, Drains, MakesProgress, item_count}
 use Rattle.std.proofs.ByRecursion.{kept_by_passes}
 use Rattle.std.proofs.lemmas.List.{drop_all, length-append, length_push, length-take}
 use Rattle.std.proofs.lemmas.List.Sums.{length-filter, count_by-le-length}
@@ -12,22 +10,18 @@ use Rattle.std.proofs.lemmas.Bool.{cond-true, cond-false, cond_both}
 use Rattle.history.specs.Lines.{newline, carriage_return, lines_after, lines, without_return, unless_empty}
 use Rattle.history.specs.Readable.{readable, readable_lines}
 
--- `find`, on an iterator that gives a list, gives the first of its elements that pass, and leaves those after it.
-module _ {S X F : Type 0} (rest : S → List X) (test : X → Bool) {g : Mut F (Bor (Bor X) × Unit {0}) Bool} {f : F} (computes : (x : Bor X) (b : Bool) (q : F) → CalledAt g f x b q → (q ≡ f) × (b ≡ test x.now)) where
-  passed_over : (s t u : S) (r : Option (Bor X)) → filter test (rest s) ≡ filter test (rest t) → YieldsFirstRef (λ v. filter test (rest v)) t r u → YieldsFirstRef (λ v. filter test (rest v)) s r u
-  passed_over s t u None same none = (same ∙ none.0, none.1)
-  passed_over s t u (Some x) same first = same ∙ first
+-- The first line is kept if it is readable, and left out if not.
+pub line_kept : (bytes line after : List ℕ) → lines bytes ≡ line ∷ lines after → true ≡ readable line → readable_lines bytes ≡ line ∷ readable_lines after
+unfolding readable_lines
+line_kept bytes line after e good = ap (filter readable) e ∙ cond-true (readable line) _ _ (sym good)
 
-  pub found_first : (xs : List (Bor X)) (s u : S) (r : Option (Bor X)) (j : F) → YieldsThen (YieldsFirstRef rest) s xs r u → FoldsTo (λ p x q. CalledAt g p x false q) f xs j
-      → IfSome r (λ x. (h : F) × CalledAt g j x true h) → YieldsFirstRef (λ v. filter test (rest v)) s r u
-  found_first [] s u None j (t, here, none) asked found = (ap (filter test) (ap rest here ∙ none.0), ap (filter test) none.1)
-  found_first [] s u (Some x) j (t, here, first) asked (h, called) =
-      let passes = computes x true h (subst (λ p. CalledAt g p x true h) (sym asked) called) in
-      ap (filter test) (ap rest here ∙ first) ∙ cond-true (test x.now) _ _ (sym passes.1)
-  found_first (x ∷ xs) s u r j (t, (i, first, more), last) (k, called, asked) found =
-      let fails = computes x false k called in
-      passed_over s i u r (ap (filter test) first ∙ cond-false (test x.now) _ _ (sym fails.1))
-      (found_first xs i u r j (t, more, last) (subst (λ p. FoldsTo (λ q y h. CalledAt g q y false h) p xs j) fails.0 asked) found)
+pub line_left_out : (bytes line after : List ℕ) → lines bytes ≡ line ∷ lines after → false ≡ readable line → readable_lines after ≡ readable_lines bytes
+unfolding readable_lines
+line_left_out bytes line after e bad = sym (ap (filter readable) e ∙ cond-false (readable line) _ _ (sym bad))
+
+pub none_readable : (bytes : List ℕ) → lines bytes ≡ [] → readable_lines bytes ≡ []
+unfolding readable_lines
+none_readable bytes e = ap (filter readable) e
 
 -- an iterator that gives a list comes nearer to its end
 pub comes_nearer : {S X : Type 0} (rest : S → List X) (s t : S) (r : Option (Bor X)) → YieldsFirstRef rest s r t → MakesProgress (λ _. Unit {0}) (item_count rest) s r t

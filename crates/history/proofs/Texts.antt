@@ -1,5 +1,5 @@
 -- The text that is loaded from a line, character by character.
-use Rattle.std.proofs.Common.{◌≡◌, ℕ, ◌<◌, ◌≤◌, Bool, true, false, eqb, List, [], ◌∷◌, ◌++◌, length, is_some, IfSome, Some, None, Decides, sym, refl, ap, ◌∙◌, subst, ⊎_elim, append_assoc, append-nil, arith}
+use Rattle.std.proofs.Common.{◌≡◌, ℕ, ◌+◌, ◌<◌, ◌≤◌, Bool, true, false, eqb, List, [], ◌∷◌, ◌++◌, length, is_some, IfSome, Some, None, Option, Decides, sym, refl, ap, ◌∙◌, subst, ⊎_elim, append_assoc, append-nil, arith}
 use Rattle.std.specs.Bool.{then_some}
 use Rattle.std.specs.Option.{option_to_list}
 use Rattle.std.proofs.lemmas.List.{nil_from_length, length-append, length_push}
@@ -104,3 +104,34 @@ module _ (bytes rest : List ℕ) (loader : Loader) (text : List ℕ) (sofar : Lo
           let more = load_from (stepped loader c) first.0 in
           let is : loaded bytes ≡ text ++ code ∷ more = ap (load_from Plain) (left.1 ∙ ap (λ l. sofar.values ++ l) first.1) ∙ sofar.loads (c ∷ first.0) ∙ ap (λ o. text ++ (option_to_list o ++ more)) (sym some) in
           and_right (well_formed bytes) _ (lt-leb (length (loaded bytes)) capacity (omega (arith, ap length is, length-append text (code ∷ more))))
+
+-- The bytes before `rest` were read, and load to so many characters.
+pub record CountedSoFar (bytes rest : List ℕ) (loader : Loader) (count : ℕ) : Type 0 where
+  pub text : List ℕ
+  pub sofar : LoadedSoFar bytes rest loader text
+  pub counts : count ≡ length text
+
+pub counted_none : (bytes : List ℕ) → CountedSoFar bytes bytes Plain 0
+counted_none bytes = record { text = []; sofar = loaded_none bytes; counts = refl }
+
+module _ (bytes rest : List ℕ) (loader : Loader) (count : ℕ) (c : ℕ) (after : List ℕ) (counted : CountedSoFar bytes rest loader count) (begins : Begins rest c after) where
+  pub nothing_counted_more : (next : Loader) (answer : Option ℕ) → next ≡ stepped loader c → answer ≡ added loader c → is_some answer ≡ false → CountedSoFar bytes after next count
+  nothing_counted_more next None e is none = record {
+    text = counted.text;
+    sofar = nothing_loaded_more bytes rest loader counted.text c after counted.sofar begins next e is;
+    counts = counted.counts;
+  }
+  nothing_counted_more next (Some code) e is none = let never : true ≡ false = none in cc
+
+  pub one_counted_more : (next : Loader) (answer : Option ℕ) → next ≡ stepped loader c → answer ≡ added loader c → is_some answer ≡ true → count < capacity → CountedSoFar bytes after next (count + 1)
+  one_counted_more next None e is some room = let never : false ≡ true = some in cc
+  one_counted_more next (Some code) e is some room = record {
+    text = counted.text ++ code ∷ [];
+    sofar = one_loaded_more bytes rest loader counted.text c after counted.sofar begins next code e is (omega (arith, counted.counts));
+    counts = omega (arith, counted.counts, length_push counted.text code);
+  }
+
+  -- a character comes that a draft has no room for
+  pub counted_too_many : (answer : Option ℕ) → answer ≡ added loader c → is_some answer ≡ true → count ≡ capacity → loadable bytes ≡ false
+  counted_too_many None is some full = let never : false ≡ true = some in cc
+  counted_too_many (Some code) is some full = loaded_too_many bytes rest loader counted.text counted.sofar c after code begins is (sym counted.counts ∙ full)

@@ -30,12 +30,32 @@ pub fn load(line: &[u8]) -> Option<ArrayVec<u32, CAPACITY>>
     rest.is_empty().then_some(text)
 }
 
+/// Whether a line loads.
+// It counts what `load` would give: each line of a whole history is asked this, and few of them are loaded.
+fn is_loadable(line: &[u8]) -> bool
+    ensures value { result ≡ loadable line.now }
+{
+    let mut loader = Loader::Plain;
+    let mut count = 0;
+    let mut rest = line;
+    while let Some((c, after)) = next(rest) {
+        if loader.take(c).is_some() {
+            if count == CAPACITY {
+                return false;
+            }
+            count += 1;
+        }
+        rest = after;
+    }
+    rest.is_empty()
+}
+
 /// Whether a line is readable.
 #[tactic(auto, unfolding(crate::specs::Readable::readable))]
 fn is_readable(line: &[u8]) -> bool
     ensures value { result ≡ readable line.now }
 {
-    line.len() <= LONGEST_LINE && load(line).is_some()
+    line.len() <= LONGEST_LINE && is_loadable(line)
 }
 
 /// The readable lines of history bytes, from the first on.
@@ -61,8 +81,15 @@ impl<'a> Iterator for ReadableLines<'a> {
 
     ghost remaining = { item_count (λ s. readable_lines s.lines.rest.now) };
 
+    // A call for each line of a whole history would cost as much as its reading. So would `find`, which LLVM leaves a call.
+    #[inline(always)]
     fn next(&mut self) -> Option<&'a [u8]> {
-        self.lines.find(|line| is_readable(line))
+        while let Some(line) = self.lines.next() {
+            if is_readable(line) {
+                return Some(line);
+            }
+        }
+        None
     }
 }
 

@@ -35,6 +35,8 @@ fn put_character(c: u32, out: &mut ArrayVec<u8, LONGEST_SPELLING>)
             out.push(hex_digit(high));
             out.push(hex_digit(low));
         }
+        // Most are one byte, and need no buffer to come from.
+        0x20..=0x7E => out.push(c as u8),
         _ => {
             let mut bytes = [0; 4];
             if let Ok(count) = encode(c, &mut bytes) {

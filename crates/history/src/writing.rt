@@ -74,10 +74,13 @@ pub fn write(draft: &PromptState, history: &[u8], out: &mut [u8]) -> Result<Opti
     if history.len() > LONGEST_HISTORY {
         return Err(Refusal::HistoryTooLong);
     }
+    if draft.as_slice().is_empty() {
+        return Ok(None);
+    }
     let spelling = spell(draft);
     let line = spelling.as_slice();
     let kept = last_lines(history, MOST_KEPT);
-    if draft.as_slice().is_empty() || is_last(line, kept) {
+    if is_last(line, kept) {
         return Ok(None);
     }
     let size = ended_length(kept) + line.len() + 1;

@@ -40,6 +40,8 @@ fn is_quad(a: u8, b: u8, c: u8, d: u8) -> bool
 }
 
 /// The character that stands first, and the bytes after it. None exactly where no row of the table begins the bytes.
+// Its callers read a line byte by byte: a call would cost more than what it does.
+#[inline(always)]
 pub fn next(bytes: &[u8]) -> Option<(u32, &[u8])>
     ensures value { MatchOption result (NoneBegins bytes.now) (λ found. Begins bytes.now found.0 found.1.now) }
 {

@@ -1,5 +1,5 @@
 // A session begins with the drafts of the last lines of history.
-ghost use Rattle.std.specs.Prelude.{◌≡◌, ◌<◌, true, map};
+ghost use Rattle.std.specs.Prelude.{◌≡◌, ◌<◌, true, [], map};
 ghost use Rattle.arrayvec.specs.ArrayVec.{array_vec_len};
 ghost use Rattle.draft.specs.Draft.{draft_of};
 ghost use Rattle.history.specs.Limits.{most_drafts};
@@ -27,17 +27,17 @@ fn remembered_draft(line: &[u8]) -> PromptState
     draft
 }
 
-/// The drafts of the last readable lines.
+/// Fills an empty vector with the drafts of the last readable lines.
+// Lent, and not handed out: its 33 KB would be moved once more.
 #[tactic(auto, using(crate::proofs::Remaining::first_is_readable))]
-fn remembered_drafts(history: &[u8]) -> ArrayVec<PromptState, MOST_DRAFTS>
-    ensures drafts_are { map draft_of result.items ≡ map remembered (remembered_texts history.now) }
-    ensures few { array_vec_len result < most_drafts }
+fn remember(history: &[u8], drafts: &mut ArrayVec<PromptState, MOST_DRAFTS>)
+    requires none_yet { drafts.old.items ≡ [] }
+    ensures drafts_are { map draft_of drafts.new.items ≡ map remembered (remembered_texts history.now) }
+    ensures few { array_vec_len drafts.new < most_drafts }
 {
-    let mut drafts = ArrayVec::new();
     for line in ReadableLines::new(last_lines(history, MOST_REMEMBERED)) {
         drafts.push(remembered_draft(line));
     }
-    drafts
 }
 
 impl PromptHistory {
@@ -48,7 +48,8 @@ impl PromptHistory {
         if history.len() > LONGEST_HISTORY {
             return Err(Refusal::HistoryTooLong);
         }
-        let mut entries = remembered_drafts(history);
+        let mut entries = ArrayVec::new();
+        remember(history, &mut entries);
         let active_index = entries.len();
         entries.push(PromptState::new());
         Ok(PromptHistory {

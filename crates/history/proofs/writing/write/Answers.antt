@@ -1,9 +1,9 @@
-use Rattle.std.proofs.Common.{◌≡◌, ◌+◌, ◌≤◌, true, false, length, ap, ◌∙◌, arith}
+use Rattle.std.proofs.Common.{◌≡◌, ◌+◌, ◌≤◌, false, length, ap, ◌∙◌, arith}
 use Rattle.draft.specs.Draft.{draft_of}
 use Rattle.history.specs.Writing.{nothing_to_add, written}
 use Rattle.history.proofs.Rewriting.{written_size, written_over, something_to_add, nothing_if_empty, nothing_if_last, answer_if_nothing, answer_if_short, answer_if_written}
 use Rattle.history.proofs.writing.write.Goals as goal
-use Rattle.history.proofs.writing.write.Goals.{After-ended_length, then-is_empty-via-then-is_empty, then-is_empty-via-else-is_empty+then-is_last}
+use Rattle.history.proofs.writing.write.Goals.{After-ended_length}
 
 some_to_add : (c : After-ended_length) → nothing_to_add (draft_of c.args.draft.now).line.text c.args.history.now ≡ false
 some_to_add c =
@@ -17,13 +17,13 @@ size_is c =
 pub returns-then-is_empty-clause-answer_is : goal.returns-then-is_empty-clause-answer_is
 returns-then-is_empty-clause-answer_is c =
     let text = (draft_of c.args.draft.now).line.text in
-    let history = c.args.history.now in
-    let none : nothing_to_add text history ≡ true =
-    elim c.then-is_empty.branch [
-      | then-is_empty-via-then-is_empty w ↦ nothing_if_empty text c.as_slice.result.now history c.as_slice.ensures.value w.if-is_empty.ensures
-      | then-is_empty-via-else-is_empty+then-is_last w ↦ nothing_if_last text _ history c.last_lines-kept.result.now c.last_lines-kept.ensures.value (c.as_slice-line.ensures.value ∙ c.spell-spelling.ensures.value) w.if-is_last.ensures.value
-    ] in
-    answer_if_nothing text history (length c.args.out.now) c.if-history-gt-LONGEST_HISTORY.false none
+    answer_if_nothing text c.args.history.now (length c.args.out.now) c.if-history-gt-LONGEST_HISTORY.false (nothing_if_empty text c.as_slice.result.now c.args.history.now c.as_slice.ensures.value c.if-is_empty.ensures)
+
+pub returns-then-is_last-clause-answer_is : goal.returns-then-is_last-clause-answer_is
+returns-then-is_last-clause-answer_is c =
+    let text = (draft_of c.args.draft.now).line.text in
+    answer_if_nothing text c.args.history.now (length c.args.out.now) c.if-history-gt-LONGEST_HISTORY.false
+    (nothing_if_last text _ c.args.history.now c.last_lines-kept.result.now c.last_lines-kept.ensures.value (c.as_slice-line.ensures.value ∙ c.spell-spelling.ensures.value) c.if-is_last.ensures.value)
 
 pub returns-then-size-out-clause-answer_is : goal.returns-then-size-out-clause-answer_is
 returns-then-size-out-clause-answer_is c =

@@ -1,6 +1,6 @@
 use Rattle.history.specs.Readable.{readable_lines}
 use Rattle.history.proofs.Remembering.{RememberedSoFar}
-use Rattle.history.proofs.store.open.remembered_drafts.Given as goal
+use Rattle.history.proofs.store.open.remember.Given as goal
 
 abbrev pub invariant-loop-line : goal.invariant-loop-line
 invariant-loop-line l =
