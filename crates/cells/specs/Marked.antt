@@ -4,10 +4,18 @@ use Rattle.std.specs.List.Sorted.{IsPartitionPoint}
 use Rattle.cells.specs.declared.table.Mark.{Mark}
 use Rattle.cells.specs.Slots.{marks_of}
 
--- the marks of a column stand from `start` up to `end`, in a table in the order of columns
+-- in a table in the order of columns, those before a column end at `start`
+abbrev pub StartsAt : (k : ℕ) → List Mark → (start : ℕ) → Type 0
+StartsAt k ms start = IsPartitionPoint (λ m. m.column < k) (λ m. k ≤ m.column) ms start
+
+-- in such a table, those behind a column begin at `end`
+abbrev pub EndsAt : (k : ℕ) → List Mark → (end : ℕ) → Type 0
+EndsAt k ms end = IsPartitionPoint (λ m. m.column ≤ k) (λ m. k < m.column) ms end
+
+-- the marks of a column stand from `start` up to `end`
 pub record IsRun (k : ℕ) (ms : List Mark) (start end : ℕ) : Type 0 where
-  pub starts : IsPartitionPoint (λ m. m.column < k) (λ m. k ≤ m.column) ms start
-  pub ends : IsPartitionPoint (λ m. m.column ≤ k) (λ m. k < m.column) ms end
+  pub starts : StartsAt k ms start
+  pub ends : EndsAt k ms end
 
 -- the marks of one column are these now, and all others' are what they were
 pub record ChangesOnly (k : ℕ) (codes : List ℕ) (before after : List Mark) : Type 0 where

@@ -2,7 +2,7 @@
 ghost use Rattle.std.specs.Prelude.{◌≡◌, ◌+◌, ◌<◌, ◌≤◌, [], ◌∷◌, ◌++◌, map, length};
 ghost use Rattle.std.specs.List.Sorted.{IsNonDecreasingBy};
 ghost use Rattle.cells.specs.Slots.{most_marks, column_of, code_of, marks_of};
-ghost use Rattle.cells.specs.Marked.{IsRun, ChangesOnly, CutAt};
+ghost use Rattle.cells.specs.Marked.{StartsAt, EndsAt, IsRun, ChangesOnly, CutAt};
 
 use crate::table::{MARKS, Mark};
 use arrayvec::ArrayVec;
@@ -31,14 +31,39 @@ impl Marks {
         self.table.len()
     }
 
+    // Where the marks of a column start, or would. A row is mostly written from left to right, and then there is nothing to search: no mark
+    // stands behind.
+    fn start(&self, column: usize) -> usize
+        ensures starts { StartsAt column self.now.table.items result }
+        ensures within { result ≤ length self.now.table.items }
+    {
+        match self.table.last() {
+            Some(last) if column <= last.column => {
+                self.table.partition_point(|mark| mark.column < column)
+            }
+            _ => self.table.len(),
+        }
+    }
+
+    // Where the marks of a column end, or would, found in the same way.
+    fn end(&self, column: usize) -> usize
+        ensures ends { EndsAt column self.now.table.items result }
+        ensures within { result ≤ length self.now.table.items }
+    {
+        match self.table.last() {
+            Some(last) if column < last.column => {
+                self.table.partition_point(|mark| mark.column <= column)
+            }
+            _ => self.table.len(),
+        }
+    }
+
     // Where the marks of a column stand, or would.
     fn run(&self, column: usize) -> Range<usize>
         ensures run { IsRun column self.now.table.items result.start result.end }
         ensures within { (result.start ≤ result.end) × (result.end ≤ length self.now.table.items) }
     {
-        let start = self.table.partition_point(|mark| mark.column < column);
-        let end = self.table.partition_point(|mark| mark.column <= column);
-        start..end
+        self.start(column)..self.end(column)
     }
 
     // The marks of a column, as they came.
@@ -54,8 +79,13 @@ impl Marks {
         ensures only { ChangesOnly mark.column (marks_of mark.column self.old.table.items ++ (mark.code ∷ [])) self.old.table.items self.new.table.items }
         ensures more { length self.new.table.items ≡ length self.old.table.items + 1 }
     {
-        let end = self.run(mark.column).end;
-        self.table.insert(end, mark);
+        let end = self.end(mark.column);
+        // A text puts most marks behind all others, where none has to move.
+        if end == self.table.len() {
+            self.table.push(mark);
+        } else {
+            self.table.insert(end, mark);
+        }
     }
 
     // Takes the marks of a column away.
@@ -64,7 +94,9 @@ impl Marks {
         ensures fewer { length self.new.table.items ≤ length self.old.table.items }
     {
         let run = self.run(column);
-        drop(self.table.drain(run));
+        if !run.is_empty() {
+            drop(self.table.drain(run));
+        }
     }
 
     // Takes the marks away from a column on.
@@ -72,7 +104,7 @@ impl Marks {
         ensures cut { CutAt column self.old.table.items self.new.table.items }
         ensures fewer { length self.new.table.items ≤ length self.old.table.items }
     {
-        let start = self.run(column).start;
+        let start = self.start(column);
         self.table.truncate(start);
     }
 }

@@ -1,5 +1,5 @@
 // What a cell row is made of: a slot for each column, and the marks.
-use glass::{Ink, PLAIN, Pen};
+use glass::{Ink, PLAIN, Pen, WIDEST};
 
 /// A cell without its marks.
 #[derive(Clone, Copy, PartialEq, Eq, Debug, Default)]
@@ -20,6 +20,9 @@ pub const BLANK: Slot = Slot {
     ink: Ink::Blank,
     pen: PLAIN,
 };
+
+/// The slots of the widest blank row.
+pub(crate) static BLANKS: [Slot; WIDEST] = [BLANK; WIDEST];
 
 /// How many mark records a cell row has.
 pub const MARKS: usize = 2048;

@@ -8,7 +8,7 @@ ghost use Rattle.cells.specs.Shows.{shows, spare_of, Made};
 
 use super::CellRow;
 use crate::marks::Marks;
-use crate::table::{BLANK, Slot};
+use crate::table::{BLANK, BLANKS, Slot};
 use arrayvec::ArrayVec;
 use font::Font;
 use glass::{Colours, Glass, PLAIN, Pen, PenChange, WIDEST};
@@ -44,6 +44,18 @@ fn blank_slots(width: usize) -> ArrayVec<Slot, WIDEST>
     let mut slots = ArrayVec::from([BLANK; WIDEST]);
     slots.truncate(width);
     slots
+}
+
+// Makes the slots those of a blank row, where they lie: those that stay are written over, and only the difference in width is taken away
+// or added.
+fn make_blank(slots: &mut ArrayVec<Slot, WIDEST>, width: usize)
+    requires { width ≤ widest }
+    ensures value { slots.new.items ≡ replicate width blank_slot }
+{
+    slots.truncate(width);
+    let kept = slots.len();
+    slots.copy_from_slice(&BLANKS[..kept]);
+    slots.try_extend_from_slice(&BLANKS[kept..width]).unwrap();
 }
 
 impl<F: Font> CellRow<F> {
@@ -115,7 +127,7 @@ impl<F: Font> Glass for CellRow<F> {
         if !(1..=WIDEST).contains(&width) {
             return Err(Refusal::OutsideGlass);
         }
-        self.slots = blank_slots(width);
+        make_blank(&mut self.slots, width);
         self.marks.truncate(0);
         self.column = 0;
         self.pen = PLAIN;

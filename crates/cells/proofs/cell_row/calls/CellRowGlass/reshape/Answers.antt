@@ -12,6 +12,6 @@ returns-clause-obeys g c =
     let within : (1 ≤ c.args.width) × (c.args.width ≤ widest) = search rules in
     let fewer = c.truncate.ensures.fewer in (
       not_refused (reshape c.args.width) (width_of (shows s)) (spare_of s) (some_width c.args.width within.0 within.1) (omega arith) refl,
-      blank_row_is c.args.width c.truncate.new.self.table.items c.blank_slots-self.ensures.value (λ k. c.truncate.ensures.cut.gone k (omega arith)),
+      blank_row_is c.args.width c.truncate.new.self.table.items c.make_blank.ensures.value (λ k. c.truncate.ensures.cut.gone k (omega arith)),
       omega arith,
     )
