@@ -70,6 +70,15 @@ held (r ∷ rs) c (suc k) rise h a b =
     let rest = held rs c k (rest_rising r rs rise) (omega arith) a b in
     grind (arith, nat_tests)
 
+-- The same of a range that was read at its place.
+pub held_there : (table : List CodeRange) (c i : ℕ) (range : CodeRange) → Rising table → i < length table → range ≡ get_or table i range → range.0 ≤ c → c ≤ range.1
+    → range.2 ≡ listed table c
+held_there table c i range rise h is from to =
+    let same : get_or table i (0, 0, NoWidth) ≡ range = get_or_default table i _ range h ∙ sym is in
+    let first : first_at table i ≡ range.0 = ap (λ (r : CodeRange). r.0) same in
+    let last : last_at table i ≡ range.1 = ap (λ (r : CodeRange). r.1) same in
+    ap (λ (r : CodeRange). r.2) (sym same) ∙ held table c i rise h (omega arith) (omega arith)
+
 -- A code in no range gets one column.
 pub in_none : (table : List CodeRange) (c : ℕ) → ((k : ℕ) → k < length table → (last_at table k < c) ⊎ (c < first_at table k))
     → One ≡ listed table c

@@ -58,6 +58,12 @@ fn look_up(table: &[CodeRange], code: u32) -> Columns
     requires rises { rises_from 0 table.now ≡ true }
     ensures value { result ≡ listed table.now code }
 {
+    // The middle range first: it holds the ideographs, of which a text that comes here mostly is.
+    if let Some((first, last, columns)) = table.get(table.len() / 2) {
+        if *first <= code && code <= *last {
+            return *columns;
+        }
+    }
     match table.get(ended_before(table, code)) {
         Some((first, _, columns)) if *first <= code => *columns,
         _ => Columns::One,

@@ -60,6 +60,8 @@ pub fn is_mark<F: Font>(code: u32) -> bool
 }
 
 /// The columns that a text takes, or the largest number there is where it takes more.
+// Inlined: each key measures.
+#[inline(always)]
 pub fn measured<F: Font>(text: &[u32]) -> usize
     ensures value { result ≡ min (text_columns F.Font.columns text.now) (2 ^ 64 - 1) }
     ensures exact { length text.now ≤ 2 ^ 60 → result ≡ text_columns F.Font.columns text.now }

@@ -1,8 +1,9 @@
-// Walks over a text: on or back past the characters that pass a test.
+// Walks over a text: on or back past the characters that pass a test. Inlined, so that the test is no call for each character.
 ghost use Rattle.std.specs.Prelude.{◌≡◌, ℕ, ◌≤◌, Bool, min, length};
 ghost use Rattle.text.specs.Walks.{Tests, on_past, back_past};
 
 /// From a place on, past each character that passes the test. A place past the text counts as its end.
+#[inline(always)]
 pub fn on_past<P: Fn(u32) -> bool>(text: &[u32], from: usize, test: P) -> usize
     requires callable { P.IsAlwaysCallable test }
     ensures value { (passes : ℕ → Bool) → Tests (P.post test) passes → result ≡ on_past passes text.now (min from (length text.now)) }
@@ -14,6 +15,7 @@ pub fn on_past<P: Fn(u32) -> bool>(text: &[u32], from: usize, test: P) -> usize
 }
 
 /// From a place back, past each character before it that passes the test. A place past the text counts as its end.
+#[inline(always)]
 pub fn back_past<P: Fn(u32) -> bool>(text: &[u32], from: usize, test: P) -> usize
     requires callable { P.IsAlwaysCallable test }
     ensures value { (passes : ℕ → Bool) → Tests (P.post test) passes → result ≡ back_past passes text.now (min from (length text.now)) }
