@@ -25,6 +25,8 @@ fn run_length<F: Font>(chars: &[u32]) -> usize
 }
 
 /// The piece that stands first, and the characters after it.
+// Inlined: its one caller asks in a loop.
+#[inline(always)]
 pub fn next_piece<F: Font>(chars: &[u32]) -> Option<(Piece<'_>, &[u32])>
     ensures value { MatchOption result (length chars.now ≡ 0) (λ found. StandsFirst F.Font.columns chars.now found.0 found.1.now) }
 {

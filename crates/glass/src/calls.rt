@@ -25,6 +25,8 @@ pub struct Stopped {
 }
 
 /// Performs one call.
+// Inlined: of a call that is known, one case is left.
+#[inline(always)]
 pub fn perform<G: Glass>(glass: &mut G, call: Call<'_>) -> Result<(), Refusal>
     ensures obeys { Obeys G.Font.Font.columns G.Glass.row G.Glass.spare (call_of call.entry) glass.old result glass.new }
     ensures keeps { StaysTied (accepted (call_of call.entry) result) (G.Glass.tied glass.old) (G.Glass.tied glass.new) }
