@@ -86,7 +86,7 @@ fn call<R: Print + AllocGlobal>(
 
 impl Sessions {
     /// A line that stands for itself, outside of sessions.
-    // The console of single parts has the first three verbs too, but it jumps without a prompt.
+    // The console of single parts has the first two verbs too, but it jumps without a prompt.
     fn single<R: Print + Files + AllocGlobal>(
         &mut self,
         rt: &R,

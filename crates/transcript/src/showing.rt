@@ -23,11 +23,19 @@ fn char_of(code: u32) -> char
     char::from_u32(code).unwrap_or('?')
 }
 
+/// Writes the character of a code.
+// By its UTF-8, as a part of a text: `write_char` would look again whether the bytes are UTF-8.
+fn write_code<W: fmt::Write>(f: &mut fmt::Formatter<W>, code: u32) -> fmt::Result
+    ensures text { DisplaysOnOk W.write_str_gives f.old result (Some (char_text code)) f.new }
+{
+    f.write_str(char_of(code).encode_utf8(&mut [0; 4]))
+}
+
 fn write_text<W: fmt::Write>(f: &mut fmt::Formatter<W>, text: &[u32]) -> fmt::Result
     ensures text { DisplaysOnOk W.write_str_gives f.old result (Some (flat_map char_text text.now)) f.new }
 {
     for code in text {
-        f.write_char(char_of(*code))?;
+        write_code(f, *code)?;
     }
     Ok(())
 }
@@ -58,7 +66,7 @@ impl<F: Font> fmt::Display for Readable<'_, F> {
             if has_label::<F>(*code) {
                 write_text(f, Label::of(*code).as_slice())?;
             } else {
-                f.write_char(char_of(*code))?;
+                write_code(f, *code)?;
             }
         }
         Ok(())
@@ -69,8 +77,8 @@ fn write_ink<W: fmt::Write>(f: &mut fmt::Formatter<W>, ink: Ink) -> fmt::Result
     ensures text { DisplaysOnOk W.write_str_gives f.old result (Some (ink_text ink)) f.new }
 {
     match ink {
-        Ink::Blank => f.write_char(' '),
-        Ink::Shown(code) => f.write_char(char_of(code)),
+        Ink::Blank => f.write_str(" "),
+        Ink::Shown(code) => write_code(f, code),
         Ink::RightHalf => Ok(()),
     }
 }
@@ -79,7 +87,7 @@ fn write_marks<W: fmt::Write>(f: &mut fmt::Formatter<W>, marks: &[Mark]) -> fmt:
     ensures text { DisplaysOnOk W.write_str_gives f.old result (Some (flat_map char_text (map code_of marks.now))) f.new }
 {
     for mark in marks {
-        f.write_char(char_of(mark.code))?;
+        write_code(f, mark.code)?;
     }
     Ok(())
 }
@@ -102,14 +110,14 @@ impl<F: Font> fmt::Display for Cells<'_, F> {
 }
 
 /// The sign of a pen: `.` plain, `p` the prompt's colours, and `:` or `P` the same reversed.
-fn sign_of(pen: Pen) -> char
-    ensures value { encode_utf8 result ≡ sign pen ∷ [] }
+fn sign_of(pen: Pen) -> &'static str
+    ensures value { result.now ≡ sign pen ∷ [] }
 {
     match (pen.colours, pen.reversed) {
-        (Colours::Plain, false) => '.',
-        (Colours::Plain, true) => ':',
-        (Colours::Prompt, false) => 'p',
-        (Colours::Prompt, true) => 'P',
+        (Colours::Plain, false) => ".",
+        (Colours::Plain, true) => ":",
+        (Colours::Prompt, false) => "p",
+        (Colours::Prompt, true) => "P",
     }
 }
 
@@ -123,9 +131,9 @@ impl<F: Font> fmt::Display for Pens<'_, F> {
     fn fmt<W: fmt::Write>(&self, f: &mut fmt::Formatter<W>) -> fmt::Result {
         for column in 0..self.0.width() {
             if column == self.0.cursor() {
-                f.write_char('_')?;
+                f.write_str("_")?;
             } else {
-                f.write_char(sign_of(self.0.cell(column).unwrap_or(BLANK).pen))?;
+                f.write_str(sign_of(self.0.cell(column).unwrap_or(BLANK).pen))?;
             }
         }
         Ok(())
