@@ -31,7 +31,7 @@ use Rattle.prompt.specs.Requests.{Request, draw, key, paste, resize, Reply}
 use Rattle.prompt.specs.Ledger.{opened}
 use Rattle.prompt.specs.Refused.{own_reasons, width_after}
 use Rattle.prompt.specs.Session.{Session, session, empty_draft, draft_in_hand, ledger, newly_opened, room, drawn, with_draft, scrolled, operated, after_operation, after, action_of, calls_by, glass_calls, refused_now, drawn_at, OneCall}
-use Rattle.prompt.specs.Promise.{ShowsThePrompt}
+use Rattle.prompt.specs.Promise.{RowShowsTheDraft, ShowsThePrompt}
 use Rattle.drawing.specs.Sight.{CursorInSight}
 use Rattle.drawing.proofs.Forgets.{drawn_same}
 use Rattle.history.specs.Session.{remembered_texts}
@@ -287,12 +287,16 @@ module _ {G : Type 0} (columns : ℕ → Columns) (ascii : (c : ℕ) → 0x20 �
   ledger_at_first : (p : Prompt) (label : List ℕ) (texts : List (List ℕ)) → session p ≡ newly_opened label texts → ledger (session p) ≡ opened texts
   ledger_at_first p label texts e = ap ledger e ∙ ap (λ (ls : List Line). record { lines = ls; hand = length texts }) (opened_lines texts)
 
-  pub promise : {p q : Prompt} {g h : G} {xs : List Request} {rs : List Reply} → Run columns row spare p g xs rs q h → (label history : List ℕ) → session p ≡ opened_with label history
+  -- whatever texts it opened with
+  pub promise : {p q : Prompt} {g h : G} {xs : List Request} {rs : List Reply} → Run columns row spare p g xs rs q h → (label : List ℕ) (texts : List (List ℕ)) → session p ≡ newly_opened label texts
+      → RowShowsTheDraft columns row spare texts xs rs p g q h
+  promise {p = p} {g = g} run label texts e =
+      row_shows_the_draft columns row spare Good kept drawn_now sight_now width_now texts run (good_at_first p g label texts e) (ledger_at_first p label texts e)
+
+  pub session_promise : {p q : Prompt} {g h : G} {xs : List Request} {rs : List Reply} → Run columns row spare p g xs rs q h → (label history : List ℕ) → session p ≡ opened_with label history
       → SessionShowsTheDraft columns row spare label history xs rs g q h
-  promise {p = p} {g = g} run label history e =
-      let texts = remembered_texts history in
-      record {
-        opened = p;
-        newly_opened = e;
-        row_shows_the_draft = row_shows_the_draft columns row spare Good kept drawn_now sight_now width_now texts run (good_at_first p g label texts e) (ledger_at_first p label texts e);
-      }
+  session_promise {p = p} run label history e = record {
+    opened = p;
+    newly_opened = e;
+    row_shows_the_draft = promise run label (remembered_texts history) e;
+  }
